@@ -2,8 +2,7 @@
 use Rattle.pref_core.proofs.Common.{◌≡◌, ℕ, suc, ◌≤◌, Bool, true, false, ◌||◌, List, [], ◌∷◌, ◌++◌, length, Option, Some, None, slice_get, slice_set, ⊎_elim, refl, sym, ◌∙◌, arith, or_cases}
 use Rattle.pref_core.proofs.Common.{or_left, or_right, count_by-le-length, Call, Line, Key, holds_key, keys, State, Client, Snapshot, found_tables, needed, is_change, outcome, succeeds, committed}
 use Rattle.pref_core.proofs.Common.{counted, after, is_needed, stamps, NeededFits, NeededFitsSlots}
-use Rattle.pref_core.proofs.NeededCounts.{fewer, length-needed, holds_key-keys-append}
-use Rattle.pref_core.proofs.NeededKeys.{ends_need_no_more}
+use Rattle.pref_core.proofs.NeededCounts.{fewer, length-needed, holds_key-keys-append, ends_need_no_more}
 
 holds : Key → List Line → Bool
 holds key table = holds_key (keys table) key

@@ -1,7 +1,8 @@
--- The changes of a commit: which ids they name, and that the rows that they begin have ids of their own.
-use Rattle.pref_core.proofs.Common.{◌≡◌, ℕ, suc, ◌+◌, ◌<◌, ◌≤◌, true, false, ◌||◌, eqb, List, [], ◌∷◌, ◌++◌, map, length, take, drop, add-one, slice_get, Some, None, refl, sym, ap, ◌∙◌}
-use Rattle.pref_core.proofs.Common.{arith, ◌⊎◌, append-nil, take_more, slice_get_within, get_or_from_slice_get, or_right, eq-eqb, Change, Add, Set, Remove}
-use Rattle.pref_core.proofs.Common.{Call, ended_by, begun_by, added_by, twice_from, is_commit, Line, among, has, missing, ended, is_formed, AreFresh, Entry, list_any-append}
+-- The changes of a commit: which ids they name, that the rows that they begin have ids of their own, and how many they are.
+use Rattle.pref_core.proofs.Common.{◌≡◌, ℕ, suc, ◌+◌, ◌<◌, ◌≤◌, true, false, ◌||◌, eqb, List, [], ◌∷◌, ◌++◌, map, length, take, drop, add-one, slice_get, Some, None, refl, sym, ap, ◌∙◌, arith, ◌⊎◌, append-nil, take_more, slice_get_within}
+use Rattle.pref_core.proofs.Common.{get_or_from_slice_get, or_right, eq-eqb, Change, Add, Set, Remove, Call, ended_by, begun_by, added_by, twice_from, is_commit, Line, among, has, missing, ended, is_formed, AreFresh, Entry, list_any-append}
+use Rattle.pref_core.proofs.Common.{zero, Bool, cond, get_or, nat_lt, drop-cons, take-append-drop, begins_any, ap₂, length-take-le, names_again, twice}
+use Rattle.std.proofs.Common.{drop-cons}
 
 pub commit_length : (commit : List Change) → is_commit commit ≡ true → length commit ≤ 8
 commit_length commit h = grind (arith)
@@ -85,3 +86,49 @@ added_one change = grind (arith)
 pub begun_few : (next : ℕ) (changes : List Change) → length (begun_by next changes) ≤ length changes
 begun_few next [] = omega arith
 begun_few next (change ∷ rest) = grind (arith, begun_few next rest, begun_few (suc next) rest)
+
+pub drop_item : {X : Type 0} (xs : List X) (at : ℕ) (x other : X) → x ≡ get_or xs at other → at < length xs → drop at xs ≡ x ∷ drop (at + 1) xs
+drop_item xs at x other is inside = drop-cons xs at other inside ∙ ap (λ y. y ∷ drop (suc at) xs) (sym is) ∙ ap (λ n. x ∷ drop n xs) (sym (add-one at))
+
+-- The ids that the first changes end, and the next one.
+pub ended_first : (at : ℕ) (changes : List Change) → length (ended_by (take at changes)) ≤ at
+ended_first zero changes = grind (arith)
+ended_first (suc at) changes = grind (arith, ended_first at)
+
+pub ended_next : (changes : List Change) (at : ℕ) (change : Change) (id : ℕ) → slice_get changes at ≡ Some change → ended_by (change ∷ []) ≡ id ∷ [] → ended_by changes ≡ ended_by (take at changes) ++ id ∷ ended_by (drop (at + 1) changes)
+ended_next changes at change id e named = grind (arith, take-append-drop at changes, ended_by-append (take at changes) (drop at changes), drop_at changes at change e)
+
+pub named_at : (changes : List Change) (at : ℕ) (change : Change) (id : ℕ) → slice_get changes at ≡ Some change → ended_by (change ∷ []) ≡ id ∷ [] → among (ended_by changes) id ≡ true
+named_at changes at change id e named = ap (λ l. among l id) (ended_next changes at change id e named) ∙ among_inside (ended_by (take at changes)) (ended_by (drop (at + 1) changes)) id
+
+-- The next id has no say in how many rows begin.
+begun_alike : (m n : ℕ) (changes : List Change) → length (begun_by m changes) ≡ length (begun_by n changes)
+begun_alike m n [] = refl
+begun_alike m n (change ∷ rest) = grind (arith, begun_alike m n rest, begun_alike (suc m) (suc n) rest)
+
+pub one_begins : (next : ℕ) (change : Change) (rest : List Change) (begins : Bool) → begins_any (change ∷ []) ≡ begins → length (begun_by next (change ∷ rest)) ≡ cond begins (suc (length (begun_by next rest))) (length (begun_by next rest))
+one_begins next change rest begins e = grind (arith, begun_alike)
+
+-- changes begin a row where the rows that they begin are more than none
+pub begins_some : (next : ℕ) (changes : List Change) → nat_lt 0 (length (begun_by next changes)) ≡ begins_any changes
+begins_some next (Remove id ∷ rest) = begins_some next rest
+begins_some next changes = grind (arith)
+
+pub added_by-length : (changes : List Change) → added_by changes ≤ length changes
+added_by-length [] = omega arith
+added_by-length (change ∷ rest) = grind (arith, added_by-length rest)
+
+one_step : (changes : List Change) (at : ℕ) (d : Change) → at < length changes
+    → twice_from (take at changes) (drop at changes) ≡ cond (names_again (take at changes) (get_or changes at d)) (Some (suc at)) (twice_from (take (at + 1) changes) (drop (at + 1) changes))
+one_step changes at d l =
+    let next : suc at ≡ at + 1 = omega arith in
+    let few : at ≤ length changes = omega arith in
+    ap (twice_from (take at changes)) (drop-cons changes at d l)
+    ∙ ap₂ (λ n earlier. cond (names_again (take at changes) (get_or changes at d)) (Some (suc n)) (twice_from earlier (drop (suc at) changes))) (length-take-le at changes few) (sym (take_more changes at d l))
+    ∙ ap (λ n. cond (names_again (take at changes) (get_or changes at d)) (Some (suc at)) (twice_from (take (at + 1) changes) (drop n changes))) next
+
+pub named_here : (changes : List Change) (at : ℕ) (d : Change) → twice_from (take at changes) (drop at changes) ≡ twice changes → at < length changes → names_again (take at changes) (get_or changes at d) ≡ true → Some (at + 1) ≡ twice changes
+named_here changes at d so_far l again = grind (arith, one_step changes at d l)
+
+pub not_here : (changes : List Change) (at : ℕ) (d : Change) → twice_from (take at changes) (drop at changes) ≡ twice changes → at < length changes → names_again (take at changes) (get_or changes at d) ≡ false → twice_from (take (at + 1) changes) (drop (at + 1) changes) ≡ twice changes
+not_here changes at d so_far l again = sym (one_step changes at d l ∙ ap (λ b. cond b (Some (suc at)) (twice_from (take (at + 1) changes) (drop (at + 1) changes))) again) ∙ so_far

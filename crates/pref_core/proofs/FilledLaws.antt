@@ -8,9 +8,9 @@ use Rattle.pref_core.proofs.Common.{Outcome, begins_row, success_outcome, is_cha
 use Rattle.pref_core.proofs.Common.{with_slots, are_free, same_Some}
 use Rattle.pref_core.proofs.StabilityLaws.{slice_get-set_same, slice_get-set_other}
 use Rattle.pref_core.proofs.SlotUseLaws.{holds_there, has_row_at, row_version, free_use}
-use Rattle.pref_core.proofs.IdChainsLaws.{shows_row, row_shown}
+use Rattle.pref_core.proofs.IdChainsLaws.{shows_row, row_shown, id_at-here, id_at-there}
 use Rattle.pref_core.proofs.BoundsLaws.{next_id-small}
-use Rattle.pref_core.proofs.ChangesLaws.{begun_fresh, found_all, formed_apart, among_append}
+use Rattle.pref_core.proofs.ChangesLaws.{begun_fresh, found_all, formed_apart, among_append, drop_item}
 use Rattle.pref_core.proofs.IndexedRows.{ended_place, other_place}
 use Rattle.pref_core.proofs.SlotKeys.{within-close, within-more, eqb_comm, AllByRecursion-set}
 use Rattle.pref_core.proofs.LineOfLaws.{one_place, one_line}
@@ -18,8 +18,6 @@ use Rattle.pref_core.proofs.Permutations.{IsPermutation-filter}
 use Rattle.pref_core.proofs.ChosenSlots.{close_none, filled_snoc, free_still, taken}
 use Rattle.pref_core.proofs.TableLaws.{has_below, has_visible-new}
 use Rattle.pref_core.proofs.AppliedLaws.{IsAllowed-from, succeeds-missing}
-use Rattle.pref_core.proofs.LinksOfSlots.{id_at-here, id_at-there}
-use Rattle.pref_core.proofs.ChangeCounts.{drop_item}
 
 -- lists are equal where they are at each place
 pub same_at_each : {X : Type 0} (xs ys : List X) → ((k : ℕ) → slice_get xs k ≡ slice_get ys k) → xs ≡ ys

@@ -4,9 +4,8 @@ use Rattle.pref_core.proofs.Common.{inr, ⊎_elim, refl, sym, ap, ◌∙◌, sub
 use Rattle.pref_core.proofs.Common.{begun_by, begins_any, row_at, IsKept, FitAtOnce, FitsNext, are_free, frees_at, uses_of, filled, is_free, is_next, slots_after, used, free_at, Contents, begins}
 use Rattle.pref_core.proofs.Common.{visible, begun, changes_of, ended, is_change, is_formed, missing, Line, among, false_from_ne_true, drop_all}
 use Rattle.std.specs.Option.{option_eq}
-use Rattle.pref_core.proofs.ChangesLaws.{among_append, among_inside, drop_at, ended_so_far, formed_apart, take_at}
+use Rattle.pref_core.proofs.ChangesLaws.{among_append, among_inside, drop_at, ended_so_far, formed_apart, take_at, named_at, one_begins}
 use Rattle.pref_core.proofs.ChosenSlots.{ChosenUpTo, all_chosen, closed_slots, outcome_fits, stamps_next, plan_is_not_full}
-use Rattle.pref_core.proofs.ChangeCounts.{named_at, one_begins}
 use Rattle.pref_core.proofs.FilledLaws.{fills_free}
 use Rattle.pref_core.proofs.FreedLaws.{free_closed, frees_closed, named_once, row_taken}
 use Rattle.pref_core.proofs.SlotUseLaws.{has_row_at}

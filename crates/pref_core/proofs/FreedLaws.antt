@@ -5,8 +5,7 @@ use Rattle.pref_core.proofs.Common.{ended_by, among, State, missing, Contents, S
 use Rattle.pref_core.proofs.Common.{row_at, IsPlaceOf, AllByRecursion, not, is_needed, has, id_at, AreIds, frees_at, is_open, IsFreed, false_from_ne_true}
 use Rattle.std.proofs.lemmas.List.Folds.{find-append}
 use Rattle.std.specs.Option.{option_or}
-use Rattle.pref_core.proofs.ChangeCounts.{ended_next}
-use Rattle.pref_core.proofs.ChangesLaws.{AreApart, among_append, among_inside}
+use Rattle.pref_core.proofs.ChangesLaws.{ended_next, AreApart, among_append, among_inside}
 use Rattle.pref_core.proofs.FilledLaws.{close_more, ids_next, known_ids, ids_closed, one_closed, row_live}
 use Rattle.pref_core.proofs.IndexedRows.{row_at-close}
 use Rattle.pref_core.proofs.ChosenSlots.{close_none}

@@ -3,13 +3,11 @@ pub mod WorkedRows
 pub mod Permutations
 pub mod SlotSetsLaws
 mod FitAtOnceLaws
-pub mod FreeSlots
 pub mod VisibleLaws
 pub mod TableLaws
 pub mod StandsForLaws
 pub mod SlotKeys
 pub mod ChangesLaws
-pub mod ChangeCounts
 pub mod CommitLaws
 pub mod NeededCounts
 pub mod SlotReuse
@@ -31,7 +29,6 @@ pub mod LineOfLaws
 pub mod VisibleAfterOp
 pub mod SeatLaws
 pub mod QueryLaws
-pub mod QueryLife
 pub mod SystemsLaws
 pub mod ChangeReplies
 pub mod ScanReplies
@@ -39,11 +36,8 @@ pub mod EndReplies
 pub mod MachineActs
 pub mod RepliesLaws
 pub mod HistoryLaws
-pub mod NeededKeys
 pub mod CapacityLaws
 pub mod IndexedRows
 pub mod IndexLaws
 pub mod IdChainsLaws
-pub mod LinksOfSlots
 pub mod OpeningChains
-pub mod NamedTwice

@@ -1,9 +1,8 @@
--- As many slots are in use as there are versions that are needed.
-use Rattle.pref_core.proofs.Common.{map-append, ◌≡◌, ◌≤◌, ℕ, Bool, true, false, ◌&&◌, ◌||◌, List, [], ◌∷◌, ◌++◌, filter, length, Option, Some, None, is_some, refl, sym, ap, ap₂, ◌∙◌}
-use Rattle.pref_core.proofs.Common.{cons_option, list_any, AllZip, list_any-IsPermutation, IsPermutation-map, length-filter, eq-eqb, Version, Caller, Line, Key, same_key, holds_key, keys, different}
-use Rattle.pref_core.proofs.Common.{State, Client, Snapshot, found_tables, needed, Contents, StandsFor, StandsForClient, Shows, ShowsBegin, seen, visible, is_needed, begins, stamps, AreDifferent}
-use Rattle.pref_core.proofs.Common.{used, list_any-append, arith}
-use Rattle.pref_core.proofs.Common.{AllByRecursion, and_parts, eqb, eqb-true, or_parts}
+-- As many slots are in use as there are versions that are needed, and fewer are needed where rows end alone.
+use Rattle.pref_core.proofs.Common.{map-append, ◌≡◌, ◌≤◌, ℕ, Bool, true, false, ◌&&◌, ◌||◌, List, [], ◌∷◌, ◌++◌, filter, length, Option, Some, None, is_some, refl, sym, ap, ap₂, ◌∙◌, cons_option, list_any, AllZip, list_any-IsPermutation}
+use Rattle.pref_core.proofs.Common.{IsPermutation-map, length-filter, eq-eqb, Version, Caller, Line, Key, same_key, holds_key, keys, different, State, Client, Snapshot, found_tables, needed, Contents, StandsFor, StandsForClient, Shows}
+use Rattle.pref_core.proofs.Common.{ShowsBegin, seen, visible, is_needed, begins, stamps, AreDifferent, used, list_any-append, arith, AllByRecursion, and_parts, eqb, eqb-true, or_parts, without, Change, Remove, begun_by, begins_any}
+use Rattle.pref_core.proofs.Common.{EndsNeedNoMore}
 use Rattle.std.proofs.lemmas.Map.Made.{length-from_same_keys, length-le_from_is_member}
 use Rattle.std.specs.Cmp.{IsEquivalence}
 use Rattle.std.specs.List.{IsDistinct}
@@ -120,3 +119,18 @@ length-needed contents state h =
         ∙ ap₂ (λ a b. a || b) (holds_key-shown contents.slots contents.stamp state.table key h.table) (holds_key-found contents.slots contents.stamp contents.callers state.clients key h.clients)
         ∙ sym (list_any-shared (λ slot. is_some (seen contents.stamp slot)) (is_needed (begins contents.callers)) (has_key key) contents.slots)
         ∙ sym (holds_key-needed (stamps contents) key contents.slots)
+
+held_without : (ids : List ℕ) (table : List Line) (key : Key) → holds_key (keys (without ids table)) key ≡ true → holds_key (keys table) key ≡ true
+held_without ids [] key h = h
+held_without ids (line ∷ rest) key h = grind (arith, held_without ids rest key)
+
+-- where rows end and none begins
+without_needs_no_more : (ids : List ℕ) (table found : List Line) → length (different (keys (without ids table ++ found))) ≤ length (different (keys (table ++ found)))
+without_needs_no_more ids table found = grind (arith, fewer, holds_key-keys-append, held_without)
+
+none_begun : (next_id : ℕ) (changes : List Change) → begins_any changes ≡ false → begun_by next_id changes ≡ []
+none_begun next_id (Remove id ∷ rest) h = none_begun next_id rest h
+none_begun next_id changes h = grind (arith)
+
+pub ends_need_no_more : EndsNeedNoMore
+ends_need_no_more state call h = grind (arith, none_begun, without_needs_no_more)

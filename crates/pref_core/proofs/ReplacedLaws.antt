@@ -4,8 +4,7 @@ use Rattle.pref_core.proofs.Common.{arith, map-set, set-set, Change, Set, Op, Sl
 use Rattle.pref_core.proofs.Common.{close, filled, slots_after, Row, Contents, new_version, stamps, added, changes_of, ended, is_change, succeeds, among}
 use Rattle.pref_core.specs.declared.changes.LentChange.{LentChange}
 use Rattle.pref_core.specs.declared.changes.LentChange.TheVariants.{Set as LentSet}
-use Rattle.pref_core.proofs.ChangesLaws.{AreApart, drop_at}
-use Rattle.pref_core.proofs.ChangeCounts.{drop_item}
+use Rattle.pref_core.proofs.ChangesLaws.{AreApart, drop_at, drop_item}
 use Rattle.pref_core.proofs.FilledLaws.{begun_commit, close_more, end_slots, replace_tracked, tracked_next}
 use Rattle.pref_core.proofs.Common.{Entry, drop_all}
 use Rattle.pref_core.proofs.ChosenSlots.{close_none}

@@ -1,7 +1,7 @@
--- The order of places and its inverse, after a move.
-use Rattle.pref_core.proofs.Common.{◌≡◌, ◌≢◌, ℕ, zero, suc, ◌+◌, ◌-◌, ◌<◌, ◌≤◌, Bool, cond, nat_lt, List, [], ◌∷◌, map, length, get_or, set, Some, slice_get, refl, sym, ap, ◌∙◌, subst, arith, ⊎_elim}
-use Rattle.pref_core.proofs.Common.{get_or-set_same, get_or-set_other, count_by, length-map, length-set, same_lists, get_or-map, sum_by-set, slice_get_within, get_or_from_slice_get, cases_eq, le-ltb}
-use Rattle.pref_core.proofs.Common.{ltb-true, SlotUse, Free, number_of, numbered, number_at, use_at, is_free_use, IsInverse, IsArranged, moved_order, moved_positions, rules}
+-- The order of places and its inverse, after a move, and which places are free by it.
+use Rattle.pref_core.proofs.Common.{◌≡◌, ◌≢◌, ℕ, zero, suc, ◌+◌, ◌-◌, ◌<◌, ◌≤◌, Bool, cond, nat_lt, List, [], ◌∷◌, map, length, get_or, set, Some, slice_get, refl, sym, ap, ◌∙◌, subst, arith, ⊎_elim, get_or-set_same, get_or-set_other}
+use Rattle.pref_core.proofs.Common.{count_by, length-map, length-set, same_lists, get_or-map, sum_by-set, slice_get_within, get_or_from_slice_get, cases_eq, le-ltb, ltb-true, SlotUse, Free, number_of, numbered, number_at, use_at}
+use Rattle.pref_core.proofs.Common.{is_free_use, IsInverse, IsArranged, moved_order, moved_positions, rules, true, false, eqb, take, None, slice_get-map, slice_get-get_or, eqb-true, or_cases, or_right, Ended, free_at, among}
 
 -- Reads of a list after two writes.
 module _ (xs : List ℕ) (i j x y : ℕ) (li : i < length xs) (lj : j < length xs) where
@@ -281,3 +281,42 @@ module _ (order positions bounds : List ℕ) (place : ℕ) (a : IsArranged order
 
 pub arranged_same : (order order_too positions positions_too bounds bounds_too : List ℕ) → order ≡ order_too → positions ≡ positions_too → bounds ≡ bounds_too → IsArranged order_too positions_too bounds_too → IsArranged order positions bounds
 arranged_same order order_too positions positions_too bounds bounds_too p q r h = grind (arith)
+
+-- The free places are the first ones of the order.
+record TakenAt (count p : ℕ) (order : List ℕ) : Type 0 where
+  at : ℕ
+  less : at < count
+  inside : at < length order
+  is : get_or order at 0 ≡ p
+
+taken_at : (count : ℕ) (order : List ℕ) (p : ℕ) → among (take count order) p ≡ true → TakenAt count p order
+taken_at (suc count) (x ∷ order) p a = ⊎_elim
+    (λ (e : eqb x p ≡ true). record { at = 0; less = omega arith; inside = omega arith; is = eqb-true x p e })
+    (λ (e : among (take count order) p ≡ true). let more = taken_at count order p e in record { at = suc more.at; less = let l = more.less in omega arith; inside = let l = more.inside in omega arith; is = more.is })
+    (or_cases (eqb x p) (among (take count order) p) a)
+taken_at count order p a = grind (arith)
+
+among_taken : (count : ℕ) (order : List ℕ) (at : ℕ) → at < count → at < length order → among (take count order) (get_or order at 0) ≡ true
+among_taken (suc count) (x ∷ order) (suc at) l m = or_right (eqb x (get_or order at 0)) (among (take count order) (get_or order at 0)) (among_taken count order at (omega arith) (omega arith))
+among_taken count order at l m = grind (arith)
+
+pub free_listed : (order positions bounds : List ℕ) (p : ℕ) → IsArranged order positions bounds → among (take (get_or bounds 0 0) order) p ≡ true → free_at (map (use_at bounds) positions) p ≡ true
+free_listed order positions bounds p a h = grind (arith, taken_at (get_or bounds 0 0) order p h, slice_get-map (use_at bounds) positions p, slice_get-get_or, use_free)
+
+pub listed_free : (order positions bounds : List ℕ) (p : ℕ) → IsArranged order positions bounds → free_at (map (use_at bounds) positions) p ≡ true → among (take (get_or bounds 0 0) order) p ≡ true
+listed_free order positions bounds p a h = grind (arith, slice_get-map, free_from, slice_get_within, get_or_from_slice_get, among_taken)
+
+-- Whether a place is free, by its position.
+pub free_there : (positions bounds : List ℕ) (p : ℕ) → 0 < length bounds → free_at (map (use_at bounds) positions) p ≡ elim (slice_get positions p) as (λ x. Bool) [ None ↦ false | Some at ↦ nat_lt at (get_or bounds 0 0) ]
+free_there positions bounds p some = grind (arith, slice_get-map, free_number)
+
+-- The places that a caller keeps are between two bounds: the first one is there, ..
+pub kept_first : (order positions bounds : List ℕ) (keeper place : ℕ) → IsArranged order positions bounds → keeper < 8 → get_or bounds (keeper + 1) 0 < get_or bounds (keeper + 2) 0 → place ≡ get_or order (get_or bounds (keeper + 1) 0) place
+    → slice_get (map (use_at bounds) positions) place ≡ Some (Ended keeper)
+kept_first order positions bounds keeper place a few some is = grind (arith, slice_get-get_or, number_is, slice_get-map)
+
+-- .. or there is none.
+pub kept_none : (order positions bounds : List ℕ) (keeper : ℕ) → IsArranged order positions bounds → keeper < 8 → get_or bounds (keeper + 2) 0 ≤ get_or bounds (keeper + 1) 0
+    → (place : ℕ) → slice_get (map (use_at bounds) positions) place ≡ Some (Ended keeper) → ⊥
+kept_none order positions bounds keeper a few none place at =
+    grind (arith, number_here order positions bounds place a (suc (suc keeper)) at, number_past bounds (get_or positions place 0) (keeper + 1), number_below bounds (get_or positions place 0))

@@ -21,7 +21,7 @@ pub fn ops_are_history()
 
 /// A call that begins no row, as a delete, never makes the needed versions more: so it is never refused for lack of
 /// room, and the code asks for room only where a row begins.
-#[tactic(auto, using(crate::proofs::NeededKeys::ends_need_no_more))]
+#[tactic(auto, using(crate::proofs::NeededCounts::ends_need_no_more))]
 pub fn ends_need_no_more()
     ensures { EndsNeedNoMore }
 {}
@@ -46,13 +46,13 @@ pub fn blocks_are_the_slots()
 
 /// As long as a query lives its next block shows no id twice, and none that the query holds: so a scan may be made,
 /// whatever was done to the store since its begin.
-#[tactic(auto, using(crate::proofs::QueryLife::next_block_is_new))]
+#[tactic(auto, using(crate::proofs::QueryLaws::next_block_is_new))]
 pub fn next_block_is_new()
     ensures { NextBlockIsNew }
 {}
 
 /// A query's answer is that of its question over the table at its begin, whatever was done to the store since.
-#[tactic(auto, using(crate::proofs::QueryLife::lives_answer_the_begin))]
+#[tactic(auto, using(crate::proofs::QueryLaws::lives_answer_the_begin))]
 pub fn answers_the_begin()
     ensures { AnswersTheBegin }
 {}

@@ -94,7 +94,7 @@ impl Contents {
     }
 
     /// Whether the call only sets rows, and each stays in its slot.
-    #[tactic(auto, using(std::proofs::lemmas::Grind::common_steps, crate::proofs::ChangesLaws::drop_at, crate::proofs::ChangeCounts::drop_item))]
+    #[tactic(auto, using(std::proofs::lemmas::Grind::common_steps, crate::proofs::ChangesLaws::drop_at, crate::proofs::ChangesLaws::drop_item))]
     fn keeps_slots(&self, op: &Planned<'_>) -> bool
         ensures { result ≡ true → KeepSlots self.now.stamp self.now.slots (changes_of op.now.call.now) op.now.slots }
     {

@@ -64,7 +64,7 @@ impl IdChains {
 
     /// The place of the row of this id in the table.
     #[inline(always)]
-    #[tactic(auto, using(std::proofs::lemmas::Grind::common_steps, std::proofs::lemmas::Grind::get_or_default_zero, crate::proofs::LinksOfSlots::nowhere))]
+    #[tactic(auto, using(std::proofs::lemmas::Grind::common_steps, std::proofs::lemmas::Grind::get_or_default_zero, crate::proofs::IdChainsLaws::nowhere))]
     pub(crate) fn find(&self, slots: &StampedSlots, id: u64) -> Option<u32>
         requires { AreLinks (length slots.now.slots) (ids_of slots.now.stamp slots.now.slots) self.now }
         ensures { IsPlaceOf slots.now.stamp id slots.now.slots result }
@@ -93,7 +93,7 @@ impl IdChains {
     }
 
     /// The row of this id is about to end: takes it out of its chain, and returns its place.
-    #[tactic(auto, using(std::proofs::lemmas::Grind::common_steps, std::proofs::lemmas::Grind::get_or_default_zero, crate::proofs::LinksOfSlots::nowhere))]
+    #[tactic(auto, using(std::proofs::lemmas::Grind::common_steps, std::proofs::lemmas::Grind::get_or_default_zero, crate::proofs::IdChainsLaws::nowhere))]
     pub(crate) fn take(&mut self, slots: &StampedSlots, id: u64) -> Option<u32>
         requires links { AreLinks (length slots.now.slots) (ids_of slots.now.stamp slots.now.slots) self.old }
         requires ids { AreIds (2 ^ 64) (id_at (ids_of slots.now.stamp slots.now.slots)) }

@@ -138,7 +138,7 @@ impl SlotSets {
     }
 
     /// Whether the place is free.
-    #[tactic(auto, using(std::proofs::lemmas::Grind::common_steps, std::proofs::lemmas::Option::gets, std::proofs::lemmas::Option::slice_get_past, crate::proofs::FreeSlots::free_there))]
+    #[tactic(auto, using(std::proofs::lemmas::Grind::common_steps, std::proofs::lemmas::Option::gets, std::proofs::lemmas::Option::slice_get_past, crate::proofs::SlotSetsLaws::free_there))]
     pub(crate) fn is_free(&self, place: u32) -> bool
         ensures { result ≡ free_at self.now place }
     {
@@ -149,7 +149,7 @@ impl SlotSets {
     }
 
     /// A place that is free and not one of these.
-    #[tactic(auto, using(std::proofs::lemmas::Grind::common_steps, crate::proofs::FreeSlots::free_listed, crate::proofs::FreeSlots::listed_free))]
+    #[tactic(auto, using(std::proofs::lemmas::Grind::common_steps, crate::proofs::SlotSetsLaws::free_listed, crate::proofs::SlotSetsLaws::listed_free))]
     pub(crate) fn any_free_but(&self, chosen: &SlotList) -> Option<u32>
         ensures found { IfSome result (λ place. (free_at self.now place ≡ true) × (among chosen.now place ≡ false)) }
         ensures none { IfNone result ((place : ℕ) → free_at self.now place ≡ true → among chosen.now place ≡ true) }
@@ -158,7 +158,7 @@ impl SlotSets {
     }
 
     /// A place that the query of a caller keeps.
-    #[tactic(auto, using(std::proofs::lemmas::Grind::common_steps, crate::proofs::FreeSlots::kept_first, crate::proofs::FreeSlots::kept_none))]
+    #[tactic(auto, using(std::proofs::lemmas::Grind::common_steps, crate::proofs::SlotSetsLaws::kept_first, crate::proofs::SlotSetsLaws::kept_none))]
     fn any_kept(&self, keeper: u8) -> Option<u32>
         requires { keeper < 8 }
         ensures found { IfSome result (λ place. slice_get self.now place ≡ Some (SlotUse.Ended keeper)) }

@@ -1,5 +1,5 @@
 use Rattle.pref_core.proofs.Common.{arith, common_steps}
-use Rattle.pref_core.proofs.ChangeCounts.{drop_item, one_begins}
+use Rattle.pref_core.proofs.ChangesLaws.{drop_item, one_begins}
 use Rattle.pref_core.proofs.changes.begun_by.Goals.{then-begins, else-begins}
 use Rattle.pref_core.proofs.changes.begun_by.Goals as goal
 

@@ -1,6 +1,5 @@
 use Rattle.pref_core.proofs.Common.{◌<◌, ◌+◌, ◌^◌, ℕ, length, refl, subst, sym, ap₂, ◌∙◌, inl, arith, slice_index, ids_of, home_of, id_at}
-use Rattle.pref_core.proofs.IdChainsLaws.{way_on}
-use Rattle.pref_core.proofs.LinksOfSlots.{within_at}
+use Rattle.pref_core.proofs.IdChainsLaws.{way_on, within_at}
 use Rattle.pref_core.proofs.store.id_chains.before.Goals as goal
 
 pub along-init : goal.along-init

@@ -1,5 +1,5 @@
 use Rattle.pref_core.proofs.Common.{length, sym, subst, ap, ◌∙◌, arith, get_or_default_zero, ids_of, AreLinks, ◌^◌, IsBefore, home_of, id_at, slice_index}
-use Rattle.pref_core.proofs.LinksOfSlots.{links_added}
+use Rattle.pref_core.proofs.IdChainsLaws.{links_added}
 use Rattle.pref_core.proofs.store.id_chains.IdChains.add.Goals as goal
 
 pub returns : goal.returns
