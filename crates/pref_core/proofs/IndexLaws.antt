@@ -1,10 +1,10 @@
 -- An index follows the store through each op that is done.
-use Rattle.pref_core.proofs.Common.{drop, slice_get, ◌≡◌, ℕ, suc, ◌+◌, ◌<◌, Bool, true, false, ◌&&◌, ◌||◌, cond, eqb, nat_lt, List, [], ◌∷◌, map, set, Option, Some, None, is_some, refl, sym, ap, ◌∙◌}
+use Rattle.pref_core.proofs.Common.{drop, get_or, length, slice_get, added_by, ◌≤◌, ◌≡◌, ℕ, suc, ◌+◌, ◌<◌, Bool, true, false, ◌&&◌, ◌||◌, cond, eqb, nat_lt, List, [], ◌∷◌, map, set, Option, Some, None, is_some, refl, sym, ap, ◌∙◌}
 use Rattle.pref_core.proofs.Common.{subst, arith, AllByRecursion, eqb-true, false_from_ne_true, or_right, Version, Change, Add, Set, Remove, Call, Op, Entry, Row, ended_by, begun_by, among, has}
 use Rattle.pref_core.proofs.Common.{is_change, succeeds, added, changes_of, ended, begun, Contents, IsWithin, visible, begins, new_version, close, is_free, filled, slots_after, is_next, applied}
 use Rattle.pref_core.proofs.Common.{slot_of, Points, PointsAll, given, placed_rows, adds, IsPlaceOf, IsIndexOf}
 use Rattle.pref_core.proofs.AppliedLaws.{IsAllowed-from}
-use Rattle.pref_core.proofs.ChangesLaws.{AreApart, drop_at, formed_apart, found_all}
+use Rattle.pref_core.proofs.ChangesLaws.{AreApart, drop_at, drop_item, formed_apart, found_all}
 use Rattle.pref_core.proofs.FilledLaws.{none_missing, slots_still}
 use Rattle.pref_core.proofs.IndexedRows.{closed_place, ended_place, other_place, row_at-new_version}
 use Rattle.pref_core.proofs.SlotReuse.{some_then}
@@ -108,20 +108,27 @@ module _ (contents : Contents) (within : AllByRecursion (IsWithin contents.next_
 pub adds_planned : (contents : Contents) (op : Op) → is_next contents op ≡ true → adds op.outcome ≡ true → nat_lt 0 (added op.call) ≡ true
 adds_planned contents op next h = grind (arith)
 
--- What is left of the rows that are placed: ..
-pub record PlacesRest (contents : Contents) (next : ℕ) (changes : List Change) (slots : List ℕ) (index : Pairs) (all : ℕ → Option ℕ) : Type 0 where
+-- What is left of the rows that are placed, and room for those that are added: ..
+pub record PlacesRest (contents : Contents) (next : ℕ) (changes : List Change) (slots : List ℕ) (index : Pairs) (room : ℕ) (all : ℕ → Option ℕ) : Type 0 where
   pub gives : (id : ℕ) → given (placed_rows next changes slots) id (slot_of index id) ≡ all id
   pub olds : AreThere contents next (ended_by changes) index
+  pub fits : added_by changes ≤ room
 
--- .. one more is added, ..
-pub adds_one : (contents : Contents) (next slot : ℕ) (row : Row) (rest : List Change) (slots : List ℕ) (index new : Pairs) (all : ℕ → Option ℕ) → PlacesRest contents next (Add row ∷ rest) (slot ∷ slots) index all → Points index next (Some slot) new
-    → PlacesRest contents (next + 1) rest slots new all
-adds_one contents next slot row rest slots index new all h points = grind (arith)
+module _ (contents : Contents) (next at used : ℕ) (changes : List Change) (slots : List ℕ) (index new : Pairs) (room later : ℕ) (all : ℕ → Option ℕ) where
+  -- .. one more is added, ..
+  pub adds_one : (slot : ℕ) (row : Row) → slice_get changes at ≡ Some (Add row) → slot ≡ get_or slots used slot → used < length slots → room ≤ later + 1
+      → PlacesRest contents next (drop at changes) (drop used slots) index room all → Points index next (Some slot) new → PlacesRest contents (next + 1) (drop (at + 1) changes) (drop (used + 1) slots) new later all
+  adds_one slot row here is inside less h points = let first = rw (drop_at changes at (Add row) here, drop_item slots used slot slot is inside) at h in grind (arith)
 
--- .. or another slot is given to a row that is there, or none.
-pub moves_one : (contents : Contents) (next id : ℕ) (slot : Option ℕ) (rest : List Change) (slots : List ℕ) (index new : Pairs) (all : ℕ → Option ℕ) → ((other : ℕ) → given ((id, slot) ∷ placed_rows next rest slots) other (slot_of index other) ≡ all other)
-    → AreThere contents next (id ∷ ended_by rest) index → Points index id slot new → PlacesRest contents next rest slots new all
-moves_one contents next id slot rest slots index new all gives olds points = grind (arith)
+  -- .. or another slot is given to a row that is there, ..
+  pub sets_one : (id slot : ℕ) (row : Row) → slice_get changes at ≡ Some (Set id row) → slot ≡ get_or slots used slot → used < length slots → room ≤ later
+      → PlacesRest contents next (drop at changes) (drop used slots) index room all → Points index id (Some slot) new → PlacesRest contents next (drop (at + 1) changes) (drop (used + 1) slots) new later all
+  sets_one id slot row here is inside less h points = let first = rw (drop_at changes at (Set id row) here, drop_item slots used slot slot is inside) at h in grind (arith)
+
+  -- .. or none.
+  pub removes_one : (id : ℕ) → slice_get changes at ≡ Some (Remove id) → room ≤ later
+      → PlacesRest contents next (drop at changes) (drop used slots) index room all → Points index id None new → PlacesRest contents next (drop (at + 1) changes) (drop used slots) new later all
+  removes_one id here less h points = let first = rw (drop_at changes at (Remove id) here) at h in grind (arith)
 
 -- the rows of the changes from a place on, whose first sets one
 pub rest_there : (contents : Contents) (next : ℕ) (index : Pairs) (changes : List Change) (at id : ℕ) (row : Row) → slice_get changes at ≡ Some (Set id row) → AreThere contents next (ended_by (drop at changes)) index → AreThere contents next (id ∷ ended_by (drop (at + 1) changes)) index
