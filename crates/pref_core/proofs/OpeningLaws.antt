@@ -1,6 +1,6 @@
 -- The opening slots stand for the opening state.
 use Rattle.pref_core.proofs.Common.{◌≡◌, ℕ, zero, suc, ◌+◌, ◌-◌, ◌^◌, ◌<◌, ◌≤◌, false, List, [], ◌∷◌, ◌++◌, length, replicate, Option, None, refl, sym, ap, ap₂, ◌∙◌, subst, arith, AllByRecursion}
-use Rattle.pref_core.proofs.Common.{AllZip, IsPermutation, IsPermutation-refl, append-nil, length-append, length-replicate, filter_map-append, le-leb, Version, Caller, Row, holds_key, IsOrdered}
+use Rattle.pref_core.proofs.Common.{AllZip, IsPermutation, IsPermutation-refl, append-nil, filter_map, length-append, length-replicate, filter_map-append, le-leb, Version, Caller, Row, holds_key, IsOrdered}
 use Rattle.pref_core.proofs.Common.{opening, opening_table, idle_clients, Contents, StandsFor, StandsForClient, seen, visible, slot_key, AreDifferent, IsWithin, opening_slots, IsKept}
 use Rattle.pref_core.proofs.SlotKeys.{slot_keys}
 
@@ -8,9 +8,14 @@ visible_opening : (now before : ℕ) (rows : List Row) → before + length rows 
 visible_opening now before [] h = refl
 visible_opening now before (row ∷ rows) h = rw (le-leb (suc before) now (omega arith), visible_opening now (suc before) rows (omega arith)) refl
 
-visible_empty : (now n : ℕ) → visible now (replicate n None) ≡ []
-visible_empty now zero = refl
-visible_empty now (suc n) = visible_empty now n
+-- empty slots give nothing, and what holds of one client holds of all that are alike
+none_of : {X Y : Type 0} (f : X → Option Y) (x : X) (n : ℕ) → f x ≡ None → filter_map f (replicate n x) ≡ []
+none_of f x zero e = refl
+none_of f x (suc n) e = rw e (none_of f x n e)
+
+all_of : {X : Type 0} (P : X → Type 0) (x : X) (n : ℕ) → P x → AllByRecursion P (replicate n x)
+all_of P x zero p = tt
+all_of P x (suc n) p = (p, all_of P x n p)
 
 ids_above : (low before : ℕ) (rows : List Row) → low ≤ before → AllByRecursion (λ line. low < line.id) (opening_table before rows)
 ids_above low before [] h = tt
@@ -24,10 +29,6 @@ opening_clients : (slots : List (Option Version)) (now n : ℕ) → AllZip (Stan
 opening_clients slots now zero = tt
 opening_clients slots now (suc n) = (record { calls = refl; at_begin = tt }, opening_clients slots now n)
 
-slot_keys-empty : (n : ℕ) → slot_keys (replicate n None) ≡ []
-slot_keys-empty zero = refl
-slot_keys-empty (suc n) = slot_keys-empty n
-
 keys_above : (id made before : ℕ) (rows : List Row) → id ≤ before → holds_key (slot_keys (opening_slots before rows)) (record { id = id; made = made }) ≡ false
 keys_above id made before [] h = refl
 keys_above id made before (row ∷ rows) h = grind (arith, keys_above id made (suc before) rows (omega arith))
@@ -35,10 +36,6 @@ keys_above id made before (row ∷ rows) h = grind (arith, keys_above id made (s
 opening_separate : (before : ℕ) (rows : List Row) → AreDifferent (slot_keys (opening_slots before rows))
 opening_separate before [] = tt
 opening_separate before (row ∷ rows) = (keys_above (suc before) (suc before) (suc before) rows (omega arith), opening_separate (suc before) rows)
-
-empty_within : (next now n : ℕ) → AllByRecursion (IsWithin next now) (replicate n None)
-empty_within next now zero = tt
-empty_within next now (suc n) = (tt, empty_within next now n)
 
 opening_within : (next now before : ℕ) (rows : List Row) (rest : List (Option Version)) → before + length rows ≤ now → now < next → AllByRecursion (IsWithin next now) rest → AllByRecursion (IsWithin next now) (opening_slots before rows ++ rest)
 opening_within next now before [] rest h l r = r
@@ -57,24 +54,20 @@ opening_stands clients empty rows = record {
   };
   clients = opening_clients _ (length rows) clients;
   separate = subst AreDifferent (sym different) (opening_separate 0 rows);
-  within = opening_within (length rows + 1) (length rows) 0 rows (replicate empty None) (omega arith) (omega arith) (empty_within (length rows + 1) (length rows) empty);
+  within = opening_within (length rows + 1) (length rows) 0 rows (replicate empty None) (omega arith) (omega arith) (all_of (IsWithin (length rows + 1) (length rows)) None empty tt);
 }
   where
     shows : visible (length rows) (opening_slots 0 rows ++ replicate empty None) ≡ opening_table 0 rows
     shows = filter_map-append (seen (length rows)) (opening_slots 0 rows) (replicate empty None)
-        ∙ ap₂ ◌++◌ (visible_opening (length rows) 0 rows (omega arith)) (visible_empty (length rows) empty)
+        ∙ ap₂ ◌++◌ (visible_opening (length rows) 0 rows (omega arith)) (none_of (seen (length rows)) None empty refl)
         ∙ append-nil (opening_table 0 rows)
 
     different : slot_keys (opening_slots 0 rows ++ replicate empty None) ≡ slot_keys (opening_slots 0 rows)
-    different = filter_map-append slot_key (opening_slots 0 rows) (replicate empty None) ∙ ap (λ l. slot_keys (opening_slots 0 rows) ++ l) (slot_keys-empty empty) ∙ append-nil _
+    different = filter_map-append slot_key (opening_slots 0 rows) (replicate empty None) ∙ ap (λ l. slot_keys (opening_slots 0 rows) ++ l) (none_of slot_key None empty refl) ∙ append-nil _
 
 pub length-opening_slots : (before : ℕ) (rows : List Row) → length (opening_slots before rows) ≡ length rows
 length-opening_slots before [] = refl
 length-opening_slots before (row ∷ rows) = ap suc (length-opening_slots (suc before) rows)
-
-no_calls : (n : ℕ) → AllByRecursion (λ (caller : Caller). caller.calls ≤ 2 ^ 56) (replicate n (record { calls = 0; at_begin = None }))
-no_calls zero = tt
-no_calls (suc n) = (omega arith, no_calls n)
 
 -- a store as it is opened, from the lists that its parts are
 pub opened_stands : (clients capacity : ℕ) (rows : List Row) (contents : Contents) → length rows ≤ capacity → contents.slots ≡ opening_slots 0 rows ++ replicate (capacity - length rows) None → contents.stamp ≡ length rows → contents.next_id ≡ length rows + 1
@@ -90,4 +83,4 @@ opened_stands clients capacity rows contents few slots stamp next_id callers = (
 
 pub opened_kept : (clients capacity : ℕ) (rows : List Row) (contents : Contents) → length rows ≤ capacity → capacity ≤ 65536 → clients ≤ 8 → contents.slots ≡ opening_slots 0 rows ++ replicate (capacity - length rows) None → contents.stamp ≡ length rows → contents.next_id ≡ length rows + 1
     → contents.callers ≡ replicate clients (record { calls = 0; at_begin = None }) → IsKept contents
-opened_kept clients capacity rows contents few fits eight slots stamp next_id callers = grind (arith, opened_stands clients capacity rows contents few slots stamp next_id callers, length-replicate, no_calls clients)
+opened_kept clients capacity rows contents few fits eight slots stamp next_id callers = grind (arith, opened_stands clients capacity rows contents few slots stamp next_id callers, length-replicate, all_of (λ (caller : Caller). caller.calls ≤ 2 ^ 56) (record { calls = 0; at_begin = None }) clients (omega arith))
