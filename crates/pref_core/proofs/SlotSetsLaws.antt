@@ -77,47 +77,26 @@ module _ (order positions : List ℕ) (place to : ℕ) (inv : IsInverse order po
   pub order_neither : (k : ℕ) → k ≢ from → k ≢ to → get_or new_order k 0 ≡ get_or order k 0
   order_neither k a b = neither order from to other place lf lt k a b
 
-  order_goes : (Q : ℕ → ℕ → Type 0) → Q to place → Q from other → ((k : ℕ) → k < length order → k ≢ from → k ≢ to → Q k (get_or order k 0)) → (k : ℕ) → k < length order → Q k (get_or new_order k 0)
-  order_goes Q a b c k l = grind (arith, order_to, order_from, order_neither)
-
   pub position_goes : (Q : ℕ → ℕ → Type 0) → Q place to → Q other from → ((k : ℕ) → k < length order → k ≢ place → k ≢ other → Q k (get_or positions k 0)) → (k : ℕ) → k < length order → Q k (get_or new_positions k 0)
   position_goes Q a b c k l = grind (arith, at_place, at_other, at_neither)
 
   pub inverse_moved : IsInverse new_order new_positions
-  inverse_moved = grind (arith, length_positions, length_order, order_goes, lo, at_place, at_other, at_neither, other_at, position_goes, lf, order_to, order_from, order_neither, apart, apart_other)
+  inverse_moved = grind (arith, length_positions, length_order, lo, at_place, at_other, at_neither, other_at, position_goes, lf, order_to, order_from, order_neither, apart, apart_other)
 
   -- the uses after a move that shifts a border past the position
   pub uses_moved : (bounds after : List ℕ) (slot_use : SlotUse) → use_at after to ≡ slot_use
       → (from ≢ to → use_at after from ≡ use_at bounds to)
       → ((x : ℕ) → x ≢ from → x ≢ to → use_at after x ≡ use_at bounds x)
       → map (use_at after) new_positions ≡ set (map (use_at bounds) positions) place slot_use
-  uses_moved bounds after slot_use here there elsewhere =
-      same_lists _ _ long (λ k d l. each k (let e = length-map new_positions (use_at after) in let f = length_positions in omega arith) d)
+  uses_moved bounds after slot_use here there elsewhere = same_lists _ _
+      (grind (arith, length-map new_positions (use_at after), length_positions, length-set (map (use_at bounds) positions) place slot_use, length-map positions (use_at bounds)))
+      (λ k d l. grind (arith, others k, get_or-map (use_at after) new_positions k 0 d, get_or-map (use_at bounds) positions k 0 d, at_place, length_positions, length-map new_positions (use_at after), length-map positions (use_at bounds), get_or-set_same, get_or-set_other, cases_eq k place))
     where
-      before : List SlotUse
-      before = map (use_at bounds) positions
-
-      long : length (map (use_at after) new_positions) ≡ length (set before place slot_use)
-      long = length-map new_positions (use_at after) ∙ length_positions ∙ sym inv.long ∙ sym (length-map positions (use_at bounds)) ∙ sym (length-set before place slot_use)
-
       others : (k : ℕ) → k < length order → k ≢ place → use_at after (get_or new_positions k 0) ≡ use_at bounds (get_or positions k 0)
       others = position_goes (λ k x. k ≢ place → use_at after x ≡ use_at bounds (get_or positions k 0))
           (λ n. absurd (n refl))
           (λ n. there (λ e. n (sym (same_place e))) ∙ ap (use_at bounds) (sym other_at))
           (λ k l a b n. elsewhere (get_or positions k 0) (apart k l a) (apart_other k l b))
-
-      each : (k : ℕ) → k < length order → (d : SlotUse) → get_or (map (use_at after) new_positions) k d ≡ get_or (set before place slot_use) k d
-      each k l d =
-          let long_new : k < length new_positions = let e = length_positions in omega arith in
-          let long_old : k < length positions = lq k l in
-          ⊎_elim (λ (e : k ≡ place).
-          get_or-map (use_at after) new_positions k 0 d long_new
-          ∙ ap (λ x. use_at after (get_or new_positions x 0)) e ∙ ap (use_at after) at_place ∙ here
-          ∙ sym (ap (λ x. get_or (set before place slot_use) x d) e ∙ get_or-set_same before place slot_use d (let m = length-map positions (use_at bounds) in let n = inv.long in omega arith)))
-          (λ (n : k ≡ place → ⊥).
-          get_or-map (use_at after) new_positions k 0 d long_new
-          ∙ others k l n
-          ∙ sym (get_or-set_other before place k slot_use d n ∙ get_or-map (use_at bounds) positions k 0 d long_old)) (cases_eq k place)
 
 -- Numbers of positions: past each bound before, ..
 pub number_past : (bounds : List ℕ) (x j : ℕ) → j < number_at bounds x → get_or bounds j 0 ≤ x
@@ -233,9 +212,7 @@ module _ (order positions bounds : List ℕ) (place : ℕ) (a : IsArranged order
       let lt : get_or bounds k 0 < length order = omega arith in
       step_from k (get_or bounds k 0) (get_or bounds k 0 + 1) (numbered (suc k)) (numbered k) at (omega arith) lp lt
       (uses_moved order positions place (get_or bounds k 0) a.inverse lp lt bounds (set bounds k (get_or bounds k 0 + 1)) (numbered k)
-      (ap numbered (number_is (set bounds k (get_or bounds k 0 + 1)) (get_or bounds k 0) k (let e = length-set bounds k (get_or bounds k 0 + 1) in omega arith)
-      (λ j l. let e = get_or-set_other bounds k j (get_or bounds k 0 + 1) 0 (λ s. absurd (omega arith)) in let f = a.ascending j k (omega arith) (omega arith) in omega arith)
-      (let e = get_or-set_same bounds k (get_or bounds k 0 + 1) 0 (omega arith) in omega arith)))
+      (ap numbered (grind (arith, number_is (set bounds k (get_or bounds k 0 + 1)) (get_or bounds k 0) k, a.ascending, get_or-set_other, get_or-set_same, length-set)))
       (λ n. ap numbered (number_kept bounds k (get_or bounds k 0 + 1) from (beside from n) ∙ number ∙ sym (number_is bounds (get_or bounds k 0) (suc k) (omega arith) (λ j l. a.ascending j k (omega arith) (omega arith)) (omega arith))))
       (λ x m n. ap numbered (number_kept bounds k (get_or bounds k 0 + 1) x (beside x n))))
       (λ i l. let f = a.ascending i k (omega arith) (omega arith) in omega arith)
@@ -260,12 +237,7 @@ module _ (order positions bounds : List ℕ) (place : ℕ) (a : IsArranged order
       let lt : get_or bounds k 0 - 1 < length order = omega arith in
       step_from k to to (numbered k) (numbered (suc k)) at (omega arith) lp lt
       (uses_moved order positions place to a.inverse lp lt bounds (set bounds k to) (numbered (suc k))
-      (ap numbered (number_is (set bounds k to) to (suc k) (let e = length-set bounds k to in omega arith)
-      (λ j l. ⊎_elim
-      (λ (e : j ≡ k). let f = ap (λ n. get_or (set bounds k to) n 0) e in let g = get_or-set_same bounds k to 0 (omega arith) in omega arith)
-      (λ (n : j ≡ k → ⊥). let e = get_or-set_other bounds k j to 0 n in let f = past from number j (omega arith) in omega arith)
-      (cases_eq j k))
-      (let e = get_or-set_other bounds k (suc k) to 0 (λ s. absurd (omega arith)) in omega arith)))
+      (let at_to : number_at (set bounds k to) to ≡ suc k = grind (arith, number_is (set bounds k to) to (suc k), past from number, get_or-set_other, get_or-set_same, length-set) in ap numbered at_to)
       (λ n. ap numbered (number_kept bounds k to from (beside below from n) ∙ number ∙ sym (number_is bounds to k (omega arith) (λ j l. let f = past from number j l in omega arith) (omega arith))))
       (λ x m n. ap numbered (number_kept bounds k to x (beside below x n))))
       (λ i l. let f = past from number i l in omega arith)
