@@ -103,24 +103,15 @@ impl Setup {
         ensures some { IsSome result ↔ AreAllowed (record { clients = clients; capacity = capacity; block = block; window = window }) }
         ensures value { IfSome result (λ s. s ≡ record { clients = clients; capacity = capacity; block = block; window = window }) }
     {
-        let allowed = 1 <= clients
-            && clients <= MOST_CLIENTS
-            && 1 <= capacity
-            && capacity <= MOST_SLOTS
-            && 1 <= block
-            && block <= MOST_SLOTS
-            && 1 <= window
-            && window <= MOST_SLOTS;
-        if allowed {
-            Some(Setup {
-                clients,
-                capacity,
-                block,
-                window,
-            })
-        } else {
-            None
-        }
+        Setup::default()
+            .with_clients(clients)
+            .ok()?
+            .with_capacity(capacity)
+            .ok()?
+            .with_block(block)
+            .ok()?
+            .with_window(window)
+            .ok()
     }
 
     /// This setup with this many clients, 1 to 8. Refused for any other number.
