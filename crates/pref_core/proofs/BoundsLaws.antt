@@ -2,7 +2,7 @@
 use Rattle.pref_core.proofs.Common.{sum_by-set, slice_get_within, get_or_from_slice_get, ◌≡◌, ℕ, suc, ◌^◌, ◌<◌, ◌≤◌, Bool, true, List, [], ◌∷◌, length, Option, Some, None, is_some, slice_get}
 use Rattle.pref_core.proofs.Common.{slice_set, refl, ap, arith, AllByRecursion, sum_by, length-map, length-set, All-from_recursion, sum_by-le, Entry, Version, Caller, Call, Op, seat, with_seat, begun}
 use Rattle.pref_core.proofs.Common.{added, refusal_of, is_formed, Contents, filled, slots_after, begin_after, callers_after, is_next, stepped, IsBounded}
-use Rattle.pref_core.proofs.AppliedLaws.{IsAllowed, IsAllowed-from}
+use Rattle.pref_core.proofs.OutcomeLaws.{IsAllowed, IsAllowed-from}
 use Rattle.pref_core.proofs.ChangesLaws.{added_by-length}
 pub use Rattle.pref_core.proofs.SlotKeys.{AllByRecursion-set}
 

@@ -6,7 +6,7 @@ use Rattle.pref_core.proofs.Common.{append_assoc, Op, Change, Add, Set, Remove, 
 use Rattle.pref_core.proofs.Common.{IsFreed, FindsFreed, is_open, uses_of, rules}
 use Rattle.pref_core.proofs.SlotSetsLaws.{count_set}
 use Rattle.pref_sky.proofs.ListLaws.{count_cons}
-use Rattle.pref_core.proofs.SlotReuse.{some_then}
+use Rattle.pref_core.proofs.StandsForLaws.{some_then}
 use Rattle.pref_core.proofs.SlotUseLaws.{one_no}
 use Rattle.pref_core.proofs.StabilityLaws.{slice_get-set_same, slice_get-set_other}
 use Rattle.pref_core.proofs.BoundsLaws.{length-filled}

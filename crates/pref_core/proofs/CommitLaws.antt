@@ -4,9 +4,8 @@ use Rattle.pref_core.proofs.Common.{AllZip, IsPermutation, list_any-IsPermutatio
 use Rattle.pref_core.proofs.Common.{Caller, Line, among, put, without, with_rows, has, holds_key, IsOrdered, Entry, State, Client, committed, is_change, is_formed, changes_of, ended, begun, added}
 use Rattle.pref_core.proofs.Common.{missing, Contents, StandsFor, StandsForClient, Shows, AreDifferent, IsWithin, visible, new_version, close, grown, AreFresh}
 use Rattle.pref_core.proofs.TableLaws.{has-without, has_below, has_visible-new, IsOrdered-put}
-use Rattle.pref_core.proofs.VisibleLaws.{seen_born, put_permutes}
+use Rattle.pref_core.proofs.StandsForLaws.{seen_born, put_permutes, Shows-close, clients-close, clients-new_version, clients-later}
 use Rattle.pref_core.proofs.ChangesLaws.{ids_of, begun_fresh, found_all, formed_apart}
-use Rattle.pref_core.proofs.StandsForLaws.{Shows-close, clients-close, clients-new_version, clients-later}
 use Rattle.pref_core.proofs.SlotKeys.{slot_keys, slot_keys-close, holds_key-new, within-close, within-more}
 
 -- the same table as the slots show

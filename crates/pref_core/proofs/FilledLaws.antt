@@ -17,7 +17,7 @@ use Rattle.pref_core.proofs.LineOfLaws.{one_place, one_line}
 use Rattle.pref_core.proofs.Permutations.{IsPermutation-filter}
 use Rattle.pref_core.proofs.ChosenSlots.{close_none, filled_snoc, free_still, taken}
 use Rattle.pref_core.proofs.TableLaws.{has_below, has_visible-new}
-use Rattle.pref_core.proofs.AppliedLaws.{IsAllowed-from, succeeds-missing}
+use Rattle.pref_core.proofs.OutcomeLaws.{IsAllowed-from, succeeds-missing}
 
 -- lists are equal where they are at each place
 pub same_at_each : {X : Type 0} (xs ys : List X) → ((k : ℕ) → slice_get xs k ≡ slice_get ys k) → xs ≡ ys

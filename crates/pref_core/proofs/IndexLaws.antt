@@ -3,11 +3,11 @@ use Rattle.pref_core.proofs.Common.{drop, get_or, length, slice_get, added_by, â
 use Rattle.pref_core.proofs.Common.{subst, arith, AllByRecursion, eqb-true, false_from_ne_true, or_right, Version, Change, Add, Set, Remove, Call, Op, Entry, Row, ended_by, begun_by, among, has}
 use Rattle.pref_core.proofs.Common.{is_change, succeeds, added, changes_of, ended, begun, Contents, IsWithin, visible, begins, new_version, close, is_free, filled, slots_after, is_next, applied}
 use Rattle.pref_core.proofs.Common.{slot_of, Points, PointsAll, given, placed_rows, adds, IsPlaceOf, IsIndexOf}
-use Rattle.pref_core.proofs.AppliedLaws.{IsAllowed-from}
+use Rattle.pref_core.proofs.OutcomeLaws.{IsAllowed-from}
 use Rattle.pref_core.proofs.ChangesLaws.{AreApart, drop_at, drop_item, formed_apart, found_all}
 use Rattle.pref_core.proofs.FilledLaws.{none_missing, slots_still}
 use Rattle.pref_core.proofs.IndexedRows.{closed_place, ended_place, other_place, row_at-new_version}
-use Rattle.pref_core.proofs.SlotReuse.{some_then}
+use Rattle.pref_core.proofs.StandsForLaws.{some_then}
 use Rattle.pref_core.proofs.TableLaws.{has_below}
 
 abbrev pub Pairs : Type 0

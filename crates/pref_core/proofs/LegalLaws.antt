@@ -1,8 +1,7 @@
 -- The test of an op at slots is legality in the state that they stand for.
 use Rattle.pref_core.proofs.Common.{◌≡◌, ℕ, Bool, true, false, cond, List, length, Option, Some, None, Ok, Err, Result, is_some, refl, sym, ◌∙◌, Version, Call, CoreFault, Op, State, after}
 use Rattle.pref_core.proofs.Common.{Contents, StandsFor, IsNext, IsLegal, is_next, slots_after, stepped, applied, Plans, PlansIn, AppliesIn, arith, ◌&&◌, and_parts, false_from_ne_true}
-use Rattle.pref_core.proofs.OutcomeLaws.{same_calls, same_refusal, same_outcome_at}
-use Rattle.pref_core.proofs.AppliedLaws.{IsAllowed-from, stepped_stands}
+use Rattle.pref_core.proofs.OutcomeLaws.{same_calls, same_refusal, same_outcome_at, IsAllowed-from, stepped_stands}
 
 pub is_next-from : (contents : Contents) (state : State) (op : Op) → StandsFor contents state → IsNext (length contents.slots) state op → is_next contents op ≡ true
 is_next-from contents state op h next = grind (arith, same_refusal, same_calls, same_outcome_at)

@@ -3,19 +3,15 @@ pub mod WorkedRows
 pub mod Permutations
 pub mod SlotSetsLaws
 mod FitAtOnceLaws
-pub mod VisibleLaws
 pub mod TableLaws
 pub mod StandsForLaws
 pub mod SlotKeys
 pub mod ChangesLaws
 pub mod CommitLaws
 pub mod NeededCounts
-pub mod SlotReuse
-pub mod SweepLaws
 pub mod OpeningSets
 pub mod SlotUseLaws
 pub mod OutcomeLaws
-pub mod AppliedLaws
 pub mod StabilityLaws
 pub mod BoundsLaws
 pub mod LegalLaws
@@ -40,4 +36,3 @@ pub mod CapacityLaws
 pub mod IndexedRows
 pub mod IndexLaws
 pub mod IdChainsLaws
-pub mod OpeningChains

@@ -3,10 +3,8 @@ use Rattle.pref_core.proofs.Common.{map-set_same, set-set, get_or_from_slice_get
 use Rattle.pref_core.proofs.Common.{slice_set, refl, sym, ap, ap₂, ◌∙◌, arith, AllByRecursion, filter_map, cons_option, take-map, drop-map, Version, Caller, Call, Op, Line, Entry, seat, with_seat}
 use Rattle.pref_core.proofs.Common.{is_change, ended, begun, succeeds, Contents, seen, visible, begins, stamps, caller_begun, block_of, new_version, close, is_free, filled, refusal_at, begin_after}
 use Rattle.pref_core.proofs.Common.{callers_after, is_next, slots_after, stepped, applied, ran, ends_query, IsStable}
-use Rattle.pref_core.proofs.VisibleLaws.{seen_close-before, seen_born-before}
-use Rattle.pref_core.proofs.StandsForLaws.{hidden_unneeded}
-use Rattle.pref_core.proofs.SlotReuse.{IsFree-from, some_then}
-use Rattle.pref_core.proofs.AppliedLaws.{IsAllowed-from}
+use Rattle.pref_core.proofs.StandsForLaws.{seen_close-before, seen_born-before, hidden_unneeded, IsFree-from, some_then}
+use Rattle.pref_core.proofs.OutcomeLaws.{IsAllowed-from}
 
 -- what each slot shows at a stamp
 abbrev pub shown : ℕ → List (Option Version) → List (Option Line)

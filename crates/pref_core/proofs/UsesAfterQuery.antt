@@ -1,10 +1,11 @@
--- What becomes of the uses where an open query begins or ends.
-use Rattle.pref_core.proofs.Common.{◌≡◌, ℕ, zero, suc, ◌+◌, ◌-◌, ◌<◌, ◌≤◌, inl, true, false, cond, List, [], ◌∷◌, ◌++◌, map, length, set, replicate, Option, Some, None, is_some, slice_get, refl, sym}
-use Rattle.pref_core.proofs.Common.{ap, ap₂, ◌∙◌, subst, arith, AllByRecursion, AllZip, option_to_list, length-set, slice_get_within, Version, Caller, SlotUse, Free, Ended, Live, Call, Op, Row}
-use Rattle.pref_core.proofs.Common.{refusal_of, Contents, is_needed, IsWithin, opening_slots, begin_after, callers_after, refusal_at, is_next, slots_after, stepped, applied, is_end}
-use Rattle.pref_core.proofs.Common.{kept_from, use_of, number_of, is_kept_by, MayBecome, IsKept, uses_of}
-use Rattle.pref_core.proofs.AppliedLaws.{stepped_stands}
+-- What becomes of the uses where an open query begins or ends: the places that it kept get their next uses, one by one.
+use Rattle.pref_core.proofs.Common.{◌≡◌, ℕ, zero, suc, ◌+◌, ◌-◌, ◌<◌, ◌≤◌, inl, true, false, cond, List, [], ◌∷◌, ◌++◌, map, length, set, replicate, Option, Some, None, is_some, slice_get, refl, sym, ap, ap₂, ◌∙◌, subst, arith}
+use Rattle.pref_core.proofs.Common.{AllByRecursion, AllZip, option_to_list, length-set, slice_get_within, Version, Caller, SlotUse, Free, Ended, Live, Call, Op, Row, refusal_of, Contents, is_needed, IsWithin, opening_slots, begin_after}
+use Rattle.pref_core.proofs.Common.{callers_after, refusal_at, is_next, slots_after, stepped, applied, is_end, kept_from, use_of, number_of, is_kept_by, MayBecome, IsKept, uses_of, get_or, ⊎_elim, count_by, count_by-le-length, eq-eqb}
+use Rattle.pref_core.proofs.OutcomeLaws.{stepped_stands}
 use Rattle.pref_core.proofs.BoundsLaws.{IsBounded-stepped}
+use Rattle.pref_core.proofs.SlotSetsLaws.{count_set}
+use Rattle.std.proofs.lemmas.List.Elements.{length_all_zip}
 
 -- A caller whose begin sees of ended versions what it saw leaves the uses.
 kept_still : (keeper : ℕ) (callers : List Caller) (k : ℕ) (found new : Caller) (slot : Option Version) → slice_get callers k ≡ Some found → is_needed (option_to_list new.at_begin) slot ≡ is_needed (option_to_list found.at_begin) slot
@@ -100,3 +101,40 @@ uses_opening callers before (row ∷ rows) empty = ap (λ l. Live ∷ l) (uses_o
 
 pub uses_opened : (callers : List Caller) (capacity : ℕ) (rows : List Row) (slots : List (Option Version)) (uses : List SlotUse) → slots ≡ opening_slots 0 rows ++ replicate (capacity - length rows) None → uses ≡ replicate (length rows) Live ++ replicate (capacity - length rows) Free → uses ≡ map (use_of callers) slots
 uses_opened callers capacity rows slots uses is returned = returned ∙ sym (uses_opening callers 0 rows (capacity - length rows)) ∙ ap (map (use_of callers)) (sym is)
+
+-- A place gets the slot_use that is after it.
+use_given : (keeper place : ℕ) (uses after : List SlotUse) → AllZip (MayBecome keeper) uses after → place < length uses
+    → AllZip (MayBecome keeper) (set uses place (get_or after place Live)) after × (is_kept_by keeper (get_or after place Live) ≡ false)
+use_given keeper place [] after h l = absurd (omega arith)
+use_given keeper place (z ∷ uses) [] h l = absurd h
+use_given keeper zero (z ∷ uses) (w ∷ after) h l = (((h.0.0, inl refl), h.1), h.0.0)
+use_given keeper (suc place) (z ∷ uses) (w ∷ after) h l = let more = use_given keeper place uses after h.1 (omega arith) in ((h.0, more.0), more.1)
+
+-- No more places are still kept than there are turns left.
+pub record IsSweeping (keeper turn : ℕ) (uses after : List SlotUse) : Type 0 where
+  pub may : AllZip (MayBecome keeper) uses after
+  pub left : count_by (is_kept_by keeper) uses + turn ≤ length after
+
+pub sweep_begins : (keeper : ℕ) (uses after : List SlotUse) → AllZip (MayBecome keeper) uses after → IsSweeping keeper 0 uses after
+sweep_begins keeper uses after h = grind (arith, count_by-le-length, length_all_zip)
+
+kept_one : (keeper : ℕ) → ◌≡◌ {A = ℕ} (cond (is_kept_by keeper (Ended keeper)) 1 0) 1
+kept_one keeper = ap (λ b. cond b 1 0) (eq-eqb keeper keeper refl)
+
+pub sweep_goes : (keeper turn place : ℕ) (uses after : List SlotUse) → IsSweeping keeper turn uses after → slice_get uses place ≡ Some (Ended keeper) → IsSweeping keeper (turn + 1) (set uses place (get_or after place Live)) after
+sweep_goes keeper turn place uses after h at =
+    grind (
+      arith,
+      use_given keeper place uses after h.may (slice_get_within uses place (Ended keeper) at),
+      count_set (is_kept_by keeper) uses place (Ended keeper) (get_or after place Live) at,
+      kept_one,
+    )
+
+-- Where no place is kept all uses are as they are to be, ..
+pub swept : (keeper : ℕ) (uses after : List SlotUse) → AllZip (MayBecome keeper) uses after → ((place : ℕ) → slice_get uses place ≡ Some (Ended keeper) → ⊥) → uses ≡ after
+swept keeper (z ∷ uses) (w ∷ after) h none = ap₂ ◌∷◌ (⊎_elim (λ (same : z ≡ w). same) (λ (kept : z ≡ Ended keeper). absurd (none zero (ap Some kept))) h.0.1) (swept keeper uses after h.1 (λ place at. none (suc place) at))
+swept keeper uses after h none = grind (arith)
+
+-- .. and so they are where no turn is left.
+pub swept_all : (keeper turn : ℕ) (uses after : List SlotUse) → IsSweeping keeper turn uses after → length after ≤ turn → uses ≡ after
+swept_all keeper turn uses after h past = swept keeper uses after h.may (λ place at. grind (arith, count_set (is_kept_by keeper) uses place (Ended keeper) Free at, kept_one))

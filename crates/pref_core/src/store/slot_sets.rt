@@ -114,7 +114,7 @@ impl SlotSets {
 
     /// After the open query of a caller ended: each place that it kept goes to the next caller that needs it, or is
     /// free. Goes over these places alone.
-    #[tactic(auto, using(std::proofs::lemmas::Grind::common_steps, crate::proofs::SweepLaws::sweep_begins, crate::proofs::SweepLaws::swept, crate::proofs::UsesAfterQuery::use_few))]
+    #[tactic(auto, using(std::proofs::lemmas::Grind::common_steps, crate::proofs::UsesAfterQuery::sweep_begins, crate::proofs::UsesAfterQuery::swept, crate::proofs::UsesAfterQuery::use_few))]
     pub(crate) fn sweep(&mut self, keeper: u8, slots: &[Option<Version>], callers: &[Caller])
         requires seats { (keeper < 8) × (length callers.now ≤ 8) }
         requires uses { AllZip (MayBecome keeper) self.old (map (use_of callers.now) slots.now) }

@@ -1,6 +1,6 @@
 use Rattle.pref_core.proofs.Common.{◌≡◌, ◌+◌, [], ◌∷◌, refl, map, set, Some, sym, ap, ◌∙◌, subst, arith, Entry, row_at, IsTracked, KeepSlots, replaced, Contents, new_version, added, changes_of, op_of}
 use Rattle.pref_core.proofs.BoundsLaws.{stamp-small, next_id-small, added-small}
-use Rattle.pref_core.proofs.AppliedLaws.{IsAllowed-from}
+use Rattle.pref_core.proofs.OutcomeLaws.{IsAllowed-from}
 use Rattle.pref_core.proofs.ChangesLaws.{formed_apart}
 use Rattle.pref_core.proofs.FilledLaws.{begun_commit, commit_fresh, tracked_next}
 use Rattle.pref_core.proofs.ReplacedLaws.{commit_kept, commit_replaced}

@@ -1,5 +1,5 @@
 use Rattle.pref_core.proofs.Common.{◌≡◌, ◌&&◌, Bool, nat_eq, length, true, false, refl, sym, ap, ◌∙◌, ne_eqb, is_change, succeeds, op_of}
-use Rattle.pref_core.proofs.AppliedLaws.{IsAllowed-from}
+use Rattle.pref_core.proofs.OutcomeLaws.{IsAllowed-from}
 use Rattle.pref_core.proofs.ChosenSlots.{missing_quiet}
 use Rattle.pref_core.proofs.FilledLaws.{fits_begun, fits_other, fits_quiet}
 use Rattle.pref_core.proofs.store.contents.Contents.fits.Goals.{in_default-via-in-Ok+then-is_change+else-succeeds, in_default-via-in-Ok+else-is_change, in_default-via-in_default}

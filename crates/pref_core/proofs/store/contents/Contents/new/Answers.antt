@@ -1,8 +1,7 @@
 use Rattle.pref_core.proofs.Common.{◌+◌, length, arith, refl, ap, sym, ◌∙◌, subst, IsKept, AreLinks, StampedSlots, ids_of, length-map, shown}
 use Rattle.pref_core.proofs.UsesAfterQuery.{uses_opened}
 use Rattle.pref_core.proofs.FilledLaws.{known_ids}
-use Rattle.pref_core.proofs.OpeningChains.{opening_is}
-use Rattle.pref_core.proofs.OpeningLaws.{opened_kept}
+use Rattle.pref_core.proofs.OpeningLaws.{opening_is, opened_kept}
 use Rattle.pref_core.proofs.store.contents.Contents.new.Goals as goal
 
 pub invariant_of-result : goal.invariant_of-result

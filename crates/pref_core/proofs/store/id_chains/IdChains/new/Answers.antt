@@ -1,5 +1,5 @@
 use Rattle.pref_core.proofs.Common.{arith, common_steps}
-use Rattle.pref_core.proofs.OpeningChains.{opening_links}
+use Rattle.pref_core.proofs.OpeningLaws.{opening_links}
 use Rattle.pref_core.proofs.store.id_chains.IdChains.new.Goals as goal
 
 pub returns : goal.returns

@@ -1,6 +1,6 @@
 use Rattle.pref_core.proofs.Common.{◌≡◌, ◌+◌, ◌<◌, map, get_or, length, set, ap, sym, ◌∙◌, subst, arith, length-map, get_or-map, slice_get_within, Live, Ended, MayBecome, use_of}
 use Rattle.std.proofs.lemmas.List.Elements.{length_all_zip}
-use Rattle.pref_core.proofs.SweepLaws.{IsSweeping, sweep_goes, swept_all}
+use Rattle.pref_core.proofs.UsesAfterQuery.{IsSweeping, sweep_goes, swept_all}
 use Rattle.pref_core.proofs.store.slot_sets.SlotSets.sweep.Goals as goal
 
 pub bounds-slots-place : goal.bounds-slots-place

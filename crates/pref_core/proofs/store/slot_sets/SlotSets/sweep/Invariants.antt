@@ -1,5 +1,5 @@
 use Rattle.pref_core.proofs.Common.{map, use_of}
-use Rattle.pref_core.proofs.SweepLaws.{IsSweeping}
+use Rattle.pref_core.proofs.UsesAfterQuery.{IsSweeping}
 use Rattle.pref_core.proofs.store.slot_sets.SlotSets.sweep.Given as goal
 
 abbrev pub invariant-loop-turn : goal.invariant-loop-turn
