@@ -3,7 +3,7 @@ use Rattle.pref_core.proofs.Common.{◌≡◌, ℕ, zero, suc, ◌^◌, Bool, tr
 use Rattle.pref_core.proofs.Common.{AllByRecursion, map-set, slice_get-map, and_parts, eqb-true, cases_eq, true≢false, Version, Caller, SlotUse, Live, is_visible, IsWithin, EndsBy}
 use Rattle.pref_core.proofs.Common.{close, close_at, use_of, is_row, row_at, IsPlaceOf, ids_of, id_at, AreIds, AreLinks, ◌+◌, subst, length_permutation, Call, Entry, State, changes_of, ended, begun}
 use Rattle.pref_core.proofs.Common.{added, missing, is_formed, Contents, StandsFor, visible, new_version, IsBounded, shown, IsTracked, AreFresh, ◌<◌, ◌&&◌, nat_eq, ◌++◌, length, drop, length-set}
-use Rattle.pref_core.proofs.Common.{is_some, get_or, unwrap_or, drop_all, length-map, map-set_same, slice_get_within, slice_get-get_or, le-leb, cases_lt, or_parts, Free, among, has, Op}
+use Rattle.pref_core.proofs.Common.{is_some, get_or, get_or_from_slice_get, drop_all, length-map, map-set_same, slice_get_within, le-leb, cases_lt, or_parts, Free, among, has, Op}
 use Rattle.pref_core.proofs.Common.{Outcome, begins_row, success_outcome, is_change, succeeds, begins, stamps, grown, is_free, filled, outcome_at, is_next, slots_after, used}
 use Rattle.pref_core.proofs.Common.{with_slots, are_free, same_Some}
 use Rattle.pref_core.proofs.StabilityLaws.{slice_get-set_same, slice_get-set_other}
@@ -49,11 +49,6 @@ row_alive next made id callers version w r = grind (arith)
 pub row_live : (next made id : ℕ) (slots : List (Option Version)) → AllByRecursion (IsWithin next made) slots → (callers : List Caller) (place : ℕ) → row_at made id slots place ≡ true → slice_get (map (use_of callers) slots) place ≡ Some Live
 row_live next made id slots within callers place row = grind (arith, row_version, slice_get-map, row_alive, holds_there)
 
--- Nothing is ahead of the commit that ends rows.
-pub within_closed : (ids : List ℕ) (next made : ℕ) (slots : List (Option Version)) → AllByRecursion (IsWithin next made) slots → AllByRecursion (IsWithin next made) (map (close ids made) slots)
-within_closed ids next made [] h = tt
-within_closed ids next made (slot ∷ slots) h = grind (arith, within_closed ids next made slots h.1)
-
 -- what the slots show once rows ended they showed before
 row_back : (ids : List ℕ) (made x : ℕ) (slots : List (Option Version)) (p : ℕ) → row_at made x (map (close ids made) slots) p ≡ true → row_at made x slots p ≡ true
 row_back ids made x (slot ∷ slots) (suc p) r = row_back ids made x slots p r
@@ -68,11 +63,10 @@ ids_closed ids made slots known = record {
     was : (p x : ℕ) → id_at (ids_of made (map (close ids made) slots)) p ≡ Some x → id_at (ids_of made slots) p ≡ Some x
     was p x at = row_shown made x slots p (row_back ids made x slots p (shows_row made x (map (close ids made) slots) p at))
 
--- An ended version shows no id.
-pub links_ended : (made place : ℕ) (slots : List (Option Version)) (version : Version) (links : List ℕ) → EndsBy made version.death → AreLinks (length slots) (set (ids_of made slots) place None) links
-    → AreLinks (length (set slots place (Some (record version { death = close_at made true version.death }))))
-    (ids_of made (set slots place (Some (record version { death = close_at made true version.death })))) links
-links_ended made place slots version links ends h = grind (arith, map-set, length-set)
+-- A slot is written, which shows this id or none.
+links_set : (made place : ℕ) (new : Option Version) (id : Option ℕ) (slots : List (Option Version)) (links : List ℕ) → shown made new ≡ id → AreLinks (length slots) (set (ids_of made slots) place id) links
+    → AreLinks (length (set slots place new)) (ids_of made (set slots place new)) links
+links_set made place new id slots links is h = rw (length-set slots place new, map-set (shown made) slots place new, is) h
 
 -- One slot_use is written.
 pub closed_uses : (callers : List Caller) (slots : List (Option Version)) (uses new : List SlotUse) (place : ℕ) (slot : Option Version) (slot_use : SlotUse) → uses ≡ map (use_of callers) slots → slot_use ≡ use_of callers slot → new ≡ set uses place slot_use → new ≡ map (use_of callers) (set slots place slot)
@@ -117,12 +111,6 @@ fresh_begun contents state call formed stands none =
     (λ id there. (has_below contents.next_id contents.stamp contents.stamp contents.slots id stands.within (found_all (ended call) (visible contents.stamp contents.slots) none id there), ended_place contents.next_id contents.stamp id (ended call) contents.slots stands.within there))
     (λ id l. has_visible-new contents.next_id (suc contents.stamp) (suc contents.stamp) (map (close (ended call) (suc contents.stamp)) contents.slots) id (within-close (ended call) contents.next_id contents.stamp contents.slots stands.within) l)
     (formed_apart call formed)
-
--- A row that begins adds its id.
-pub links_born : (made place : ℕ) (fresh : Entry) (new : Option Version) (slots : List (Option Version)) (links : List ℕ) → new ≡ new_version made fresh
-    → AreLinks (length slots) (set (ids_of made slots) place (Some fresh.id)) links
-    → AreLinks (length (set slots place new)) (ids_of made (set slots place new)) links
-links_born made place fresh new slots links is h = grind (arith, map-set, length-set)
 
 -- Slots fit rows where there are as many, each is free, and none comes twice.
 fills_where : (made : ℕ) (ns earlier : List ℕ) (before : List Entry) (slots now : List (Option Version)) (places : List ℕ) (begun : List Entry) → filled (made ∷ ns) made earlier before slots ≡ Some now → length places ≡ length begun
@@ -250,8 +238,8 @@ module _ (contents : Contents) (uses : List SlotUse) (links : List ℕ) (id plac
   closes : ◌≡◌ {A = Option Version} (Some (record version { death = close_at contents.stamp true version.death })) last
   closes = ap (λ d. Some (record version { death = close_at contents.stamp true d })) (no_end contents.next_id contents.stamp id version within_here row_here)
 
-  pub end_inside : place < length contents.slots
-  end_inside = slice_get_within contents.slots place (Some version) at
+  gone : shown contents.stamp last ≡ None
+  gone = grind (arith)
 
   pub end_alive : slice_get uses place ≡ Some Live
   end_alive = ap (λ z. slice_get z place) h.listed ∙ row_live contents.next_id contents.stamp id contents.slots h.within contents.callers place row
@@ -264,11 +252,9 @@ module _ (contents : Contents) (uses : List SlotUse) (links : List ℕ) (id plac
       → IsTracked (with_slots (set contents.slots place last) contents) uses_new links_new
   end_tracked slot_use uses_new links_new is returned linked = record {
     seats = h.seats;
-    within = subst (AllByRecursion (IsWithin contents.next_id contents.stamp)) (sym end_slots) (within_closed (id ∷ []) contents.next_id contents.stamp contents.slots h.within);
+    within = AllByRecursion-set (IsWithin contents.next_id contents.stamp) contents.slots place last (within_here.0, within_here.1, omega arith) h.within;
     listed = closed_uses contents.callers contents.slots uses uses_new place last slot_use h.listed is returned;
-    linked =
-        subst (λ s. AreLinks (length (set contents.slots place s)) (ids_of contents.stamp (set contents.slots place s)) links_new) closes
-        (links_ended contents.stamp place contents.slots version links_new within_here.2 linked);
+    linked = links_set contents.stamp place last None contents.slots links_new gone linked;
     ids = subst (λ l. AreIds (2 ^ 64) (id_at (ids_of contents.stamp l))) (sym end_slots) (ids_closed (id ∷ []) contents.stamp contents.slots h.ids);
   }
 
@@ -276,27 +262,23 @@ module _ (contents : Contents) (uses : List SlotUse) (links : List ℕ) (id plac
   visible_here = and_parts (eqb version.id id) (is_visible contents.stamp version) row_here
 
   -- .. or is replaced where it stands, ..
-  here : (new : Option Version) → get_or contents.slots place new ≡ Some version
-  here new = ap (λ o. unwrap_or o new) (sym (slice_get-get_or contents.slots place new end_inside) ∙ at)
-
   pub replace_tracked : (entry : Entry) (new : Option Version) → entry.id ≡ id → new ≡ new_version contents.stamp entry → IsTracked (with_slots (set contents.slots place new) contents) uses links
   replace_tracked entry new same is =
       let named : version.id ≡ id = eqb-true version.id id visible_here.0 in
       let low : entry.id < contents.next_id = omega (arith, within_here.0, named, same) in
+      let here = get_or_from_slice_get contents.slots place (Some version) new at in
       let slot_use : use_of contents.callers new ≡ use_of contents.callers (get_or contents.slots place new) =
-      ap (use_of contents.callers) is ∙ sym (ap (use_of contents.callers) (here new) ∙ row_alive contents.next_id contents.stamp id contents.callers version within_here row_here) in
+      ap (use_of contents.callers) is ∙ sym (ap (use_of contents.callers) here ∙ row_alive contents.next_id contents.stamp id contents.callers version within_here row_here) in
       let fresh : shown contents.stamp (new_version contents.stamp entry) ≡ Some entry.id = rw (le-leb contents.stamp contents.stamp (omega arith)) refl in
       let before : shown contents.stamp (Some version) ≡ Some version.id = rw visible_here.1 refl in
       let id_here : shown contents.stamp new ≡ shown contents.stamp (get_or contents.slots place new) =
-      ap (shown contents.stamp) is ∙ (fresh ∙ (ap Some (same ∙ sym named) ∙ sym (ap (shown contents.stamp) (here new) ∙ before))) in
+      ap (shown contents.stamp) is ∙ (fresh ∙ (ap Some (same ∙ sym named) ∙ sym (ap (shown contents.stamp) here ∙ before))) in
       let ids_same = map-set_same (shown contents.stamp) contents.slots place new new id_here in
       record {
         seats = h.seats;
         within = subst (λ r. AllByRecursion (IsWithin contents.next_id contents.stamp) (set contents.slots place r)) (sym is) (AllByRecursion-set (IsWithin contents.next_id contents.stamp) contents.slots place (new_version contents.stamp entry) (low, omega arith, tt) h.within);
         listed = h.listed ∙ sym (map-set_same (use_of contents.callers) contents.slots place new new slot_use);
-        linked =
-            subst (λ n. AreLinks n (ids_of contents.stamp (set contents.slots place new)) links) (sym (length-set contents.slots place new))
-            (subst (λ ids. AreLinks (length contents.slots) ids links) (sym ids_same) h.linked);
+        linked = rw (length-set contents.slots place new, ids_same) h.linked;
         ids = subst (λ ids. AreIds (2 ^ 64) (id_at ids)) (sym ids_same) h.ids;
       }
 
@@ -309,7 +291,7 @@ begin_tracked contents uses links entry place row uses_new links_new h free abse
   seats = h.seats;
   within = subst (λ r. AllByRecursion (IsWithin contents.next_id contents.stamp) (set contents.slots place r)) (sym is) (AllByRecursion-set (IsWithin contents.next_id contents.stamp) contents.slots place (new_version contents.stamp entry) (low, omega arith, tt) h.within);
   listed = closed_uses contents.callers contents.slots uses uses_new place row Live h.listed (sym (ap (use_of contents.callers) is)) returned;
-  linked = links_born contents.stamp place entry row contents.slots links_new is linked;
+  linked = links_set contents.stamp place row (Some entry.id) contents.slots links_new (grind (arith)) linked;
   ids = subst (λ r. AreIds (2 ^ 64) (id_at (ids_of contents.stamp (set contents.slots place r)))) (sym is) (ids_born contents.stamp place entry contents.slots small (free_inside contents uses links place h free) absent h.ids);
 }
 
