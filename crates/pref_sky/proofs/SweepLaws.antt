@@ -1,6 +1,6 @@
 -- One pass over entries in order: the class of the next entry, how many levels are above it, and what is known behind it.
 use Rattle.pref_sky.proofs.Common.{◌≡◌, ℕ, suc, ◌<◌, ◌≤◌, ◌+◌, ◌-◌, Bool, true, false, not, inl, inr, List, [], ◌∷◌, ◌++◌, refl, sym, ◌∙◌, ap, subst, arith, length, get_or, set}
-use Rattle.pref_sky.proofs.Common.{and_from, cases_eq, cases_lt, false_from_ne_true, get_or-set_same, get_or-set_other, length-set, length_push}
+use Rattle.pref_sky.proofs.Common.{OwnOrder, own_order, and_from, cases_eq, cases_lt, false_from_ne_true, get_or-set_same, get_or-set_other, length-set, length_push}
 use Rattle.pref_sky.proofs.Common.{get_or_push, get_or_append_left, comes_after, Entry, entry_at, IsChain, StandAlike, are_level, comes_first, in_turn}
 use Rattle.pref_sky.proofs.ChainLaws.{chain_in_turn, level_above}
 use Rattle.pref_sky.proofs.LeveledLaws.{only_level}
@@ -8,7 +8,10 @@ use Rattle.pref_sky.proofs.ListLaws.{among_place}
 use Rattle.pref_sky.proofs.Merges.{comes_after_upto}
 use Rattle.pref_sky.proofs.StepLaws.{alike_stays, member_over, new_class, same_level, stays}
 use Rattle.pref_sky.specs.Sweep.{AreAbove, ArePlaces, AreSwept, HasSwept, IsClass, IsMember, IsSameLevel, StandsFor, are_level_in, is_at}
+use Rattle.pref_sky.specs.Leads.{HasPassed, HasSweptBy, IsClassBy}
+use Rattle.pref_sky.specs.declared.lead.Lead.{Lead}
 use Rattle.pref_sky.specs.declared.level.Level.{Level}
+use Rattle.pref_sky.specs.declared.sweep.Sweep.{Sweep}
 
 -- ---- alike entries
 
@@ -145,3 +148,10 @@ module _ {over second third : Entry → Entry → Bool} {rule : Entry → ℕ} {
       swept_put put there stands =
           swept_next (set levels n put) (length-set levels n put) (λ _. there) (λ kept _ is. subst (Stands (i + 1) n) (sym (is ∙ get_or-set_same levels n put kept there)) stands)
           (λ k kept other is. is ∙ get_or-set_other levels n k put kept other)
+
+-- ---- what is known behind it, of it and of those before
+
+pub behind : {order : OwnOrder} {lead : Lead} {all : List Entry} {i : ℕ} {sweep : Sweep} → HasSweptBy order lead all (i + 1) sweep.class sweep.levels.items → IsClassBy order lead all sweep.class i
+    → AreAbove (own_order order) order.cut all (entry_at all i) sweep.above → HasPassed order lead all (i + 1) sweep
+behind {order = order} {lead = lead} {all = all} {i = i} {sweep = sweep} so_far class above =
+    let last : i ≡ i + 1 - 1 = omega arith in grind (arith, last)

@@ -4,7 +4,7 @@ ghost use Rattle.std.specs.Prelude.{◌≡◌, ◌<◌, ◌≤◌, ◌+◌, ◌-
 ghost use Rattle.pref_term.specs.Order.{StandAlike};
 ghost use Rattle.pref_sky.specs.OwnOrders.{level_of, own_order};
 ghost use Rattle.pref_sky.specs.Items.{entry_at};
-ghost use Rattle.pref_sky.specs.Leads.{HasPassed, HasSweptBy, IsSweptTo, LeadsSweep, first_of, second_of, third_of};
+ghost use Rattle.pref_sky.specs.Leads.{HasPassed, IsSweptTo, LeadsSweep, first_of, second_of, third_of};
 ghost use Rattle.pref_sky.specs.declared.entry.Entry.{Entry};
 ghost use Rattle.pref_sky.specs.Sweep.{AreAbove, HasSwept, are_level_in};
 
@@ -93,8 +93,7 @@ impl Sweep {
         requires swept { IsSweptTo order.now lead.now entries.now place signature self.old }
         requires above { AreAbove (own_order order.now) order.now.cut entries.now (entry_at entries.now place) self.old.above }
         requires known { self.old.above ≤ length self.old.levels.items }
-        ensures so_far { OnOk result (HasSweptBy order.now lead.now entries.now (place + 1) self.new.class self.new.levels.items) }
-        ensures same { (self.new.class ≡ self.old.class) × (self.new.above ≡ self.old.above) }
+        ensures { OnOk result (HasPassed order.now lead.now entries.now (place + 1) self.new) }
     {
         if self.above >= order.cut as usize {
             return Ok(());

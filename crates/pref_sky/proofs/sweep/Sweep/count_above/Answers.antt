@@ -1,4 +1,4 @@
-use Rattle.pref_sky.proofs.Common.{◌≡◌, ◌-◌, ◌<◌, ◌∙◌, ℕ, add-one, arith, comes_after, entry_at, length, length-set, own_order, set, suc, sym}
+use Rattle.pref_sky.proofs.Common.{◌≡◌, ◌-◌, ◌<◌, ℕ, arith, comes_after, entry_at, length, length-set, own_order, set, suc}
 use Rattle.pref_sky.proofs.SweepLaws.{all_known, are_places, none_past, swept_asked}
 use Rattle.pref_sky.specs.Leads.{HasSweptBy, mark_of}
 use Rattle.pref_sky.proofs.sweep.Sweep.count_above.Goals.{After-dominates}
@@ -37,29 +37,9 @@ module _ (c : After-dominates) where
 pub halves-preserved-then-dominates : goal.halves-preserved-then-dominates
 halves-preserved-then-dominates c =
     let d = (goal.at.halves-preserved-then-dominates c).After-dominates in
-    let inv = c.halves.invariant in
-    let swept = inv.swept in
-    let long = length-set c.halves.self.levels.items (middle d) c.dominates.new.self in
-    record {
-      swept = record { inside = swept.inside; leads = swept.leads; signed = swept.signed; so_far = so_far d; class = swept.class };
-      ordered = omega (arith, c.next_between-middle.ensures.to);
-      within = omega (arith, inv.within, long);
-      above = rw (add-one (middle d)) (sym (is d) ∙ c.if-dominates.true);
-      no_more = inv.no_more;
-      from = omega (arith, inv.from, c.next_between-middle.ensures.from);
-    }
+    grind (arith, so_far d, is d, c.halves.invariant.swept, c.halves.invariant.no_more, length-set c.halves.self.levels.items (middle d) c.dominates.new.self)
 
 pub halves-preserved : goal.halves-preserved
 halves-preserved c =
     let d = (goal.at.halves-preserved c).After-dominates in
-    let inv = c.halves.invariant in
-    let swept = inv.swept in
-    let long = length-set c.halves.self.levels.items (middle d) c.dominates.new.self in
-    record {
-      swept = record { inside = swept.inside; leads = swept.leads; signed = swept.signed; so_far = so_far d; class = swept.class };
-      ordered = c.next_between-middle.ensures.from;
-      within = omega (arith, c.next_between-middle.ensures.to, inv.within, long);
-      above = inv.above;
-      no_more = λ _. sym (is d) ∙ c.if-dominates.false;
-      from = inv.from;
-    }
+    grind (arith, so_far d, is d, c.halves.invariant.swept, length-set c.halves.self.levels.items (middle d) c.dominates.new.self)

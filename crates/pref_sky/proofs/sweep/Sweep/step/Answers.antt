@@ -1,23 +1,8 @@
-use Rattle.pref_sky.proofs.Common.{[], ◌≡◌, ◌∙◌, ◌+◌, ◌-◌, ℕ, List, Entry, OwnOrder, ap, arith, entry_at, get_or_read, own_order, subst, sym}
-use Rattle.pref_sky.proofs.SweepLaws.{above_alike, class_begins, class_goes_on, swept_alike, swept_anew}
-use Rattle.pref_sky.specs.Leads.{HasPassed, HasSweptBy, IsClassBy, rule_of}
-use Rattle.pref_sky.specs.Sweep.{AreAbove}
-use Rattle.pref_sky.specs.declared.lead.Lead.{Lead}
-use Rattle.pref_sky.specs.declared.sweep.Sweep.{Sweep}
-use Rattle.std.proofs.lemmas.Result.{on_ok_weaker}
+use Rattle.pref_sky.proofs.Common.{[], ◌∙◌, ap, get_or_read}
+use Rattle.pref_sky.proofs.SweepLaws.{above_alike, behind, class_begins, class_goes_on, swept_alike, swept_anew}
+use Rattle.pref_sky.specs.Leads.{rule_of}
 use Rattle.pref_sky.proofs.sweep.Sweep.step.Goals.{in-Apart, in-InClass}
 use Rattle.pref_sky.proofs.sweep.Sweep.step.Goals as goal
-
--- the entry is the last one before the next place
-behind : (order : OwnOrder) (lead : Lead) (all : List Entry) (i : ℕ) (sweep : Sweep) → HasSweptBy order lead all (i + 1) sweep.class sweep.levels.items → IsClassBy order lead all sweep.class i
-    → AreAbove (own_order order) order.cut all (entry_at all i) sweep.above → HasPassed order lead all (i + 1) sweep
-behind order lead all i sweep so_far class above =
-    let last : i ≡ i + 1 - 1 = omega arith in
-    record {
-      so_far = so_far;
-      class = λ _. subst (IsClassBy order lead all sweep.class) last class;
-      above = λ _. subst (λ j. AreAbove (own_order order) order.cut all (entry_at all j) sweep.above) last above;
-    }
 
 pub returns-in-Alike : goal.returns-in-Alike
 returns-in-Alike c =
@@ -27,7 +12,7 @@ returns-in-Alike c =
     let passed = c.requires.passed in
     let class = passed.class same.0 in
     let above = above_alike _ _ _ _ _ _ alike (passed.above same.0) in
-    behind c.args.order.now c.args.lead.now c.args.entries.now c.args.place c.args.self.now
+    behind
     (swept_alike passed.so_far swept c.requires.inside c.args.self.now.above above same.0 class.begins (passed.above same.0) alike same.1)
     (class_goes_on swept c.args.self.now.class c.args.place same.0 class same.1) above
 
@@ -46,10 +31,3 @@ count_above-self-requires c =
           let class = class_begins leads.swept c.args.place c.requires.inside (stands.apart w.in-Apart.is) in
           rw (w.self-is) (record { inside = c.requires.inside; leads = leads; signed = signed; so_far = swept_anew so_far; class = class })
     ]
-
-pub returns : goal.returns
-returns c =
-    let found = c.count_above-self.ensures in
-    let same = c.put.ensures.same in
-    let class = subst (λ class. IsClassBy c.args.order.now c.args.lead.now c.args.entries.now class c.args.place) (sym same.0) found.still.class in
-    on_ok_weaker c.put.result (λ so_far. behind c.args.order.now c.args.lead.now c.args.entries.now c.args.place c.put.new.self so_far class (subst (AreAbove _ _ _ _) (sym same.1) found.above)) c.put.ensures.so_far
