@@ -6,7 +6,6 @@ use Rattle.pref_sky.proofs.KeptLaws.{keeps_filtered}
 use Rattle.pref_sky.proofs.LeveledLaws.{count_above_is, level_is, levels_of_kept}
 use Rattle.pref_sky.proofs.ListLaws.{among_place, any_from}
 use Rattle.pref_sky.proofs.Merges.{comes_after_among_more, comes_after_upto}
-use Rattle.pref_sky.proofs.Ranks.{kept_are}
 use Rattle.pref_sky.proofs.SortedLevels.{KeepsUpper, same_above}
 use Rattle.pref_sky.specs.Held.{AreHeld, AreTakenOver}
 
@@ -41,11 +40,8 @@ module _ (over : Entry → Entry → Bool) (cut : ℕ) (held : List Entry) where
 
 module _ (order : OwnOrder) (held all : List Entry) (levels : List ℕ) (different : HaveDifferentIds (map entry_of (own_levels order held))) (are : AreLeveled order held all levels) (kept : List Entry) (left : List ℕ)
     (kept_is : kept ≡ filter (λ e. nat_lt 0 (level_of (own_order order) all order.cut e)) all) (left_is : left ≡ map (level_of (own_order order) all order.cut) kept) where
-  same : kept ≡ filter (λ e. not (comes_after (own_order order) all order.cut e)) all
-  same = kept_is ∙ kept_are (own_order order) all order.cut
-
   keeps : KeepsUpper (own_order order) order.cut all all kept
-  keeps = subst (KeepsUpper (own_order order) order.cut all all) (sym same) (keeps_filtered (comes_after (own_order order) all order.cut) all)
+  keeps = subst (KeepsUpper (own_order order) order.cut all all) (sym kept_is) (keeps_filtered (λ e. nat_lt 0 (level_of (own_order order) all order.cut e)) all (λ e none. grind (arith, none)))
 
   level_kept : (e : Entry) → level_of (own_order order) all order.cut e ≡ level_of (own_order order) kept order.cut e
   level_kept e =

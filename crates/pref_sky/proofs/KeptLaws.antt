@@ -1,12 +1,13 @@
 -- What is kept of entries: all, those that a test leaves, the same in another order, and of two lists of which one stands behind the other.
-use Rattle.pref_sky.proofs.Common.{◌≡◌, ◌==◌, Bool, true, not, inl, List, [], ◌∷◌, ◌++◌, arith, filter, Entry, HaveDifferentIds, IsPermutation, KeepsAllBut, sum_by-IsPermutation}
+use Rattle.pref_sky.proofs.Common.{◌≡◌, ◌==◌, Bool, inl, List, [], ◌∷◌, ◌++◌, arith, filter, Entry, HaveDifferentIds, IsPermutation, KeepsAllBut, sum_by-IsPermutation}
+use Rattle.pref_sky.proofs.Common.{false}
 use Rattle.pref_sky.proofs.ListLaws.{in_either, in_left, in_right, count_append, count_filter, from_filter, in_filter, same_if_permuted}
 
 pub keeps_all : {below : Entry → Type 0} (entries : List Entry) → KeepsAllBut below entries entries
 keeps_all entries = record { within = λ x m. m; covers = λ x m. inl m; counts = λ p. omega arith }
 
-pub keeps_filtered : (below : Entry → Bool) (entries : List Entry) → KeepsAllBut (λ e. below e ≡ true) entries (filter (λ e. not (below e)) entries)
-keeps_filtered below entries = grind (arith, from_filter, in_filter, count_filter)
+pub keeps_filtered : {below : Entry → Type 0} (stays : Entry → Bool) (entries : List Entry) → ((e : Entry) → stays e ≡ false → below e) → KeepsAllBut below entries (filter stays entries)
+keeps_filtered stays entries others = grind (arith, others, from_filter, in_filter, count_filter)
 
 -- two lists, one behind the other
 pub keeps_joined : {below : Entry → Type 0} (xs ys some kept : List Entry) → KeepsAllBut below xs some → KeepsAllBut below ys kept → KeepsAllBut below (xs ++ ys) (some ++ kept)

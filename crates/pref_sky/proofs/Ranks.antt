@@ -1,5 +1,5 @@
 -- The levels of a list are its entries over which no chain of the cut stands, each with its level.
-use Rattle.pref_sky.proofs.Common.{◌≡◌, ℕ, zero, suc, ◌≤◌, Bool, true, not, ◌&&◌, List, [], ◌∷◌, ◌++◌, map, refl, sym, ◌∙◌, subst, arith, filter, filter_agree, nat_lt, cond, cond-true}
+use Rattle.pref_sky.proofs.Common.{◌≡◌, ℕ, zero, suc, ◌≤◌, Bool, true, not, ◌&&◌, List, [], ◌∷◌, ◌++◌, map, refl, sym, ◌∙◌, subst, arith, filter, nat_lt, cond, cond-true}
 use Rattle.pref_sky.proofs.Common.{Among, Entry, Ranked, at_level, entry_of, in_order_of_id, best, rest, levels, level_of, count_above, comes_after, count_by}
 use Rattle.pref_sky.proofs.Common.{IsPermutation, IsPermutation-cons, IsPermutation-map, IsPermutation-middle, IsPermutation-refl, IsPermutation-sym, IsPermutation-trans, sum_by-IsPermutation}
 use Rattle.std.proofs.lemmas.List.Sorted.{IsPermutation-append}
@@ -34,17 +34,13 @@ leveled_are over all (suc n) =
     (IsPermutation-trans _ _ _ (leveled_more over all n all)
     (IsPermutation-append _ _ _ _ (leveled_are over all n) (IsPermutation-map (at_level (suc n)) level (in_order_of_id level) (in_order_moves level))))
 
-entries_of_leveled : (level : Entry → ℕ) (xs : List Entry) → map entry_of (leveled level xs) ≡ filter (λ e. nat_lt 0 (level e)) xs
-entries_of_leveled level [] = refl
-entries_of_leveled level (x ∷ xs) = grind (arith, entries_of_leveled level xs)
-
 -- those that have a level are not below the cut
-pub kept_are : {E : Type 0} (over : E → E → Bool) (all : List E) (cut : ℕ) → filter (λ e. nat_lt 0 (level_of over all cut e)) all ≡ filter (λ e. not (comes_after over all cut e)) all
-kept_are over all cut = filter_agree (λ e. nat_lt 0 (level_of over all cut e)) (λ e. not (comes_after over all cut e)) (λ e. grind (arith)) all
+entries_of_leveled : (over : Entry → Entry → Bool) (all : List Entry) (cut : ℕ) (xs : List Entry) → map entry_of (leveled (level_of over all cut) xs) ≡ filter (λ e. not (comes_after over all cut e)) xs
+entries_of_leveled over all cut [] = refl
+entries_of_leveled over all cut (x ∷ xs) = grind (arith, entries_of_leveled over all cut xs)
 
 pub held_are : (over : Entry → Entry → Bool) (all : List Entry) (cut : ℕ) → IsPermutation (filter (λ e. not (comes_after over all cut e)) all) (map entry_of (levels over all cut))
-held_are over all cut =
-    grind (arith, entries_of_leveled (level_of over all cut) all, kept_are over all cut, IsPermutation-map entry_of (leveled (level_of over all cut) all) (levels over all cut) (leveled_are over all cut))
+held_are over all cut = grind (arith, entries_of_leveled over all cut all, IsPermutation-map entry_of (leveled (level_of over all cut) all) (levels over all cut) (leveled_are over all cut))
 
 pub count_levels : (over : Entry → Entry → Bool) (p : Entry → Bool) (all : List Entry) (n : ℕ) → count_by p (map entry_of (levels over all n)) ≡ count_by (λ e. p e && not (comes_after over all n e)) all
 count_levels over p all n = sum_by-IsPermutation (λ e. cond (p e) 1 0) _ _ (held_are over all n) ∙ count_filtered p (λ e. not (comes_after over all n e)) all

@@ -14,7 +14,7 @@ KeepsUpper over cut upper = KeepsAllBut (λ e. comes_after over upper cut e ≡ 
 
 -- those of the levels are such
 pub levels_keep : (over : Entry → Entry → Bool) (all : List Entry) (cut : ℕ) → KeepsUpper over cut all all (map entry_of (levels over all cut))
-levels_keep over all cut = keeps_moved _ _ (keeps_filtered (comes_after over all cut) all) _ (held_are over all cut)
+levels_keep over all cut = keeps_moved _ _ (keeps_filtered (λ e. not (comes_after over all cut e)) all (λ e low. grind (arith, low))) _ (held_are over all cut)
 
 module _ (over : Entry → Entry → Bool) (strict : IsStrictOrder over) (some all : List Entry) (cut : ℕ) (keeps : KeepsUpper over cut all all some) where
   pub same_above : (n : ℕ) (e : Entry) → n ≤ cut → comes_after over some n e ≡ comes_after over all n e
@@ -33,7 +33,8 @@ module _ (over : Entry → Entry → Bool) (strict : IsStrictOrder over) (some a
   same_level : (n : ℕ) → n < cut → in_order_of_id (best over (rest over some n)) ≡ in_order_of_id (best over (rest over all n))
   same_level n early =
       let same = same_above over strict some all cut keeps in
-      same_in_order _ _ (level_differs over strict some all cut keeps different n early) (level_differs over strict all all cut (keeps_all all) different n early) (grind (arith, best_of_rest_is over some n, best_of_rest_is over all n, from_filter, in_filter, keeps.within, keeps.covers, same n, same (suc n), early_stays over all (suc n) cut))
+      same_in_order _ _ (level_differs over strict some all cut keeps different n early) (level_differs over strict all all cut (keeps_all all) different n early)
+      (grind (arith, best_of_rest_is over some n, best_of_rest_is over all n, from_filter, in_filter, keeps.within, keeps.covers, same n, same (suc n), early_stays over all (suc n) cut))
 
   levels_upto : (n : ℕ) → n ≤ cut → levels over some n ≡ levels over all n
   levels_upto zero le = refl

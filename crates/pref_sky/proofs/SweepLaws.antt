@@ -62,7 +62,11 @@ module _ {over second third : Entry → Entry → Bool} {rule : Entry → ℕ} {
 
   -- no entry so far is of a class that begins here
   pub swept_anew : HasSwept over second third rule mark cut all i i levels
-  swept_anew = record { within = so_far.within; stand = λ n kept there is. new_class over second third rule mark all class i n kept (so_far.stand n kept there is) i (omega arith); known = so_far.known }
+  swept_anew = record {
+    within = so_far.within;
+    stand = λ n kept there is. new_class over second third rule mark all class i n kept (so_far.stand n kept there is) i (omega arith);
+    known = so_far.known;
+  }
 
   -- nor of a level that is begun
   pub swept_longer : (empty : Level) → length levels < cut → (((j : ℕ) → IsMember over all i (length levels) j → ⊥) → Stands i (length levels) empty) → HasSwept over second third rule mark cut all i class (levels ++ empty ∷ [])
