@@ -69,9 +69,6 @@ same_in keys a b = grind (arith, sides keys a b)
 
 -- ---- lists that are sorted by one
 
-chain_is_weak : {E : Type 0} (before : E → E → Bool) → IsChain before → IsStrictWeakOrder before
-chain_is_weak before chain = grind (arith)
-
 in_order_if_far : {E : Type 0} (before : E → E → Bool) (xs : List E) → ((i j : ℕ) (d : E) → i ≤ j → j < length xs → before (get_or xs j d) (get_or xs i d) ≡ false) → IsInOrder (λ a b. not (before b a)) xs
 in_order_if_far before [] far = tt
 in_order_if_far before (x ∷ xs) far = (
@@ -79,17 +76,18 @@ in_order_if_far before (x ∷ xs) far = (
   in_order_if_far before xs (λ i j d p q. far (suc i) (suc j) d (omega arith) (omega arith)),
 )
 
--- what a sort ensures, where each call compares two by a chain
-pub in_order_from_sort_by : {E : Type 0} (before : E → E → Bool) → IsChain before → {F : Type 0} {g : Mut F (Bor E × (Bor E × Unit {0})) Ordering} {f : F} (xs : List E) → IsSortedByClosure g f xs
-    → ((a : Bor E × (Bor E × Unit {0})) (r : Ordering) (f' : F) → Called g f a r f' → (is_lt r ≡ before a.0.now a.1.0.now) × (f' ≡ f)) → IsInOrder (λ a b. not (before b a)) xs
-in_order_from_sort_by before chain {g = g} {f = f} xs by called =
-    let weak = chain_is_weak before chain in
-    in_order_if_far before xs (sorted_far before weak xs (by before weak (always_returns_same g (λ a r. is_lt r ≡ before a.0.now a.1.0.now) f called)))
-
 -- a list in order by what it is mapped to
 pub mapped_in_order : {E F : Type 0} (f : E → F) (before : F → F → Bool) (xs : List E) → IsInOrder (λ a b. before (f a) (f b)) xs → IsInOrder before (map f xs)
 mapped_in_order f before [] ordered = ordered
 mapped_in_order f before (x ∷ xs) ordered = ((λ y m. let w = from_map f xs y m in ap (before (f x)) w.2 ∙ ordered.0 w.0 w.1), mapped_in_order f before xs ordered.1)
+
+-- what a sort ensures, where each call compares by a chain what two are mapped to
+pub in_order_from_sort_by : {E F : Type 0} (f : E → F) (before : F → F → Bool) → IsChain before → {G : Type 0} {g : Mut G (Bor E × (Bor E × Unit {0})) Ordering} {h : G} (xs : List E) → IsSortedByClosure g h xs
+    → ((a : Bor E × (Bor E × Unit {0})) (r : Ordering) (h' : G) → Called g h a r h' → (is_lt r ≡ before (f a.0.now) (f a.1.0.now)) × (h' ≡ h)) → IsInOrder (λ a b. not (before b a)) (map f xs)
+in_order_from_sort_by {E = E} f before chain {g = g} {h = h} xs by called =
+    let mapped : E → E → Bool = λ a b. before (f a) (f b) in
+    let weak : IsStrictWeakOrder mapped = grind (arith, chain) in
+    mapped_in_order f (λ a b. not (before b a)) xs (in_order_if_far mapped xs (sorted_far mapped weak xs (by mapped weak (always_returns_same g (λ a r. is_lt r ≡ mapped a.0.now a.1.0.now) h called))))
 
 pub in_weaker_order : {E : Type 0} (before weaker : E → E → Bool) → ((a b : E) → before a b ≡ true → weaker a b ≡ true) → (xs : List E) → IsInOrder before xs → IsInOrder weaker xs
 in_weaker_order before weaker then [] h = h

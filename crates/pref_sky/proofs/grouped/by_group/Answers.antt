@@ -1,13 +1,10 @@
-use Rattle.pref_sky.proofs.Common.{◌≡◌, ◌<◌, get_or, All-permutation, Among, Bool, IsChain, IsPermutation, IsPermutation-map, List, ap, arith, length, length-map, map, not, rules, subst, take_all, ℕ}
-use Rattle.pref_sky.proofs.ChainLaws.{in_order_from_sort_by, mapped_in_order}
+use Rattle.pref_sky.proofs.Common.{◌≡◌, ◌<◌, get_or, All-permutation, Among, IsPermutation, IsPermutation-map, ap, arith, length, length-map, map, rules, subst, take_all}
+use Rattle.pref_sky.proofs.ChainLaws.{in_order_from_sort_by}
 use Rattle.pref_sky.proofs.GroupedLaws.{order_chain}
 use Rattle.pref_sky.proofs.ListLaws.{among_place, same_if_permuted}
 use Rattle.pref_sky.specs.Grouped.{stands_before, entries}
 use Rattle.pref_sky.specs.declared.grouped.Placed.{Placed}
 use Rattle.pref_sky.proofs.grouped.by_group.Goals as goal
-
-placed_chain : (columns : List ℕ) → IsChain {E = Placed} (λ a b. stands_before columns a.entry.now b.entry.now)
-placed_chain columns = grind (arith, order_chain columns)
 
 pub returns : goal.returns
 returns c =
@@ -17,13 +14,10 @@ returns c =
     let sorted = c.sort_unstable_by.new.self.items in
     let moved = c.sort_unstable_by.ensures.permutation in
     let whole : entries placed ≡ ranked = grind (arith, take_all) in
-    let before : Placed → Placed → Bool = λ a b. stands_before columns a.entry.now b.entry.now in
     let places = map (λ (p : Placed). p.place) in
     record {
       moved = subst (λ l. IsPermutation l (entries sorted)) whole (IsPermutation-map (λ (p : Placed). p.entry.now) placed sorted moved);
-      in_order =
-          mapped_in_order (λ (p : Placed). p.entry.now) (λ a b. not (stands_before columns b a)) sorted
-          (in_order_from_sort_by before (placed_chain columns) sorted c.sort_unstable_by.ensures.sorted (λ a r q k. search rules));
+      in_order = in_order_from_sort_by (λ (p : Placed). p.entry.now) (stands_before columns) (order_chain columns) sorted c.sort_unstable_by.ensures.sorted (λ a r q k. search rules);
       at_place = All-permutation (λ (p : Placed). (p.place < length ranked) × (get_or ranked p.place p.entry.now ≡ p.entry.now)) placed sorted moved c.loop-place.invariant.1;
       all =
           λ place inside.

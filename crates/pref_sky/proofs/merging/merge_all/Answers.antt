@@ -9,8 +9,8 @@ use Rattle.pref_sky.specs.Ranking.{marks, with_level}
 use Rattle.pref_sky.specs.declared.merging.Marked.{Marked}
 use Rattle.pref_sky.proofs.merging.merge_all.Goals as goal
 
-marked_chain : (order : OwnOrder) → IsChain {E = Marked} (λ a b. comes_before order a.entry.now b.entry.now)
-marked_chain order = grind (arith, before_is_chain order)
+ranked_chain : (order : OwnOrder) → IsChain {E = Ranked} (λ a b. comes_before order (entry_of a) (entry_of b))
+ranked_chain order = grind (arith, before_is_chain order)
 
 pub returns : goal.returns
 returns c level leveled =
@@ -39,8 +39,7 @@ returns c level leveled =
         moved = subst (λ l. IsPermutation l (map entry_of all)) entries (IsPermutation-map entry_of _ all moved);
         in_order =
             mapped_in_order entry_of (λ a b. not (comes_before order b a)) all
-            (mapped_in_order (λ (m : Marked). at_level m.level m.entry.now) (λ (a b : Ranked). not (comes_before order (entry_of b) (entry_of a))) sorted
-            (in_order_from_sort_by (λ a b. comes_before order a.entry.now b.entry.now) (marked_chain order) sorted c.in_ok-sort_by.ensures.sorted (λ a r q k. search rules)));
+            (in_order_from_sort_by (λ (m : Marked). at_level m.level m.entry.now) (λ a b. comes_before order (entry_of a) (entry_of b)) (ranked_chain order) sorted c.in_ok-sort_by.ensures.sorted (λ a r q k. search rules));
       }),
       subst (λ l. AreTakenOver level held l merged.held.items) (sym copies) (subst (AreTakenOver level held (map entry_of all)) (sym found) taken),
     )) c.copied.ensures
