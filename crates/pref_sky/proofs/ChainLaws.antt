@@ -1,14 +1,16 @@
 -- Chains: weak orders; keys and columns are such, and lists that are sorted by one.
-use Rattle.pref_sky.proofs.Common.{◌≡◌, ℤ, ℕ, Bool, true, false, not, ◌&&◌, ◌||◌, List, [], ◌∷◌, refl, sym, subst, arith, int_lt, nat_lt, int_eq, cell, in_same_group, suc, length, get_or, map, ◌∙◌}
-use Rattle.pref_sky.proofs.Common.{by_chain, is_better, is_same, is_worse, IsChain, are_level, better_in, earlier_in, in_turn, Entry, Bor, Ordering, ◌<◌, ◌≤◌, IsInOrder, ap}
+use Rattle.pref_sky.proofs.Common.{◌≡◌, ℤ, ℕ, Bool, true, false, not, ◌&&◌, ◌||◌, List, [], ◌∷◌, sym, subst, arith, int_lt, in_same_group, suc, length, get_or, map, ◌∙◌}
+use Rattle.pref_sky.proofs.Common.{by_chain, is_better, is_same, IsChain, are_level, better_in, in_turn, Bor, Ordering, ◌<◌, ◌≤◌, IsInOrder, ap}
 use Rattle.pref_sky.proofs.Common.{Called, IsSortedByClosure, is_lt, always_returns_same, sorted_far, Mut}
-use Rattle.std.proofs.lemmas.Int.{ints}
 use Rattle.std.specs.Cmp.{IsStrictWeakOrder}
+use Rattle.pref_term.proofs.ExtensionLaws.{chain_back, chain_decided, group_same}
+use Rattle.pref_term.specs.Extension.{group_keys}
 use Rattle.pref_term.specs.Keys.{keyed}
-use Rattle.pref_term.specs.Walk.{by_scores, by_sides, in_priority}
+use Rattle.pref_term.specs.Walk.{by_scores, in_priority}
 use Rattle.pref_term.specs.declared.key.Key.{Key}
 use Rattle.pref_term.specs.declared.relation.Relation.{Relation}
 use Rattle.pref_sky.proofs.ListLaws.{from_map, place_of}
+use Rattle.pref_sky.specs.Chains.{earlier_in}
 
 -- one chain, and where that sees no difference another one
 pub chain_in_turn : {E : Type 0} (f g : E → E → Bool) → IsChain f → IsChain g → IsChain (in_turn f g)
@@ -26,13 +28,6 @@ level_below f chain a b c level = grind (arith, level, chain.between a c b, chai
 numbers_chain : {E : Type 0} (number : E → ℤ) → IsChain (λ a b. int_lt (number a) (number b))
 numbers_chain number = grind (arith)
 
-pub places_chain : {E : Type 0} (place : E → ℕ) → IsChain (λ a b. nat_lt (place a) (place b))
-places_chain place = grind (arith)
-
--- a chain of rows is one of entries
-pub chain_of_entries : (better : List ℤ → List ℤ → Bool) → IsChain better → IsChain {E = Entry} (λ a b. better a.row b.row)
-chain_of_entries better chain = grind (arith)
-
 by_first : (x y : ℤ) (r : Relation) → is_better (in_priority (by_scores x y) r) ≡ (int_lt x y || ((not (int_lt x y) && not (int_lt y x)) && is_better r))
 by_first x y r = grind arith
 
@@ -43,29 +38,16 @@ keys_chain (key ∷ keys) =
     (chain_in_turn (λ a b. int_lt (keyed key a) (keyed key b)) (better_in keys) (numbers_chain (keyed key)) (keys_chain keys))
 
 pub earlier_chain : (columns : List ℕ) → IsChain (earlier_in columns)
-earlier_chain [] = grind (arith)
-earlier_chain (col ∷ columns) = chain_in_turn (λ a b. int_lt (cell a col) (cell b col)) (earlier_in columns) (numbers_chain (λ a. cell a col)) (earlier_chain columns)
+unfolding earlier_in
+earlier_chain columns = keys_chain (group_keys columns)
 
-cells_equal : (x y : ℤ) → int_eq x y ≡ (not (int_lt x y) && not (int_lt y x))
-cells_equal x y = grind (arith, ints)
+-- two are the same in a chain where neither is better, and of one group where neither is earlier
+pub same_in : (keys : List Key) (a b : List ℤ) → is_same (by_chain keys a b) ≡ are_level (better_in keys) a b
+same_in keys a b = grind (arith, chain_back keys a b, chain_decided keys a b)
 
 pub same_group : (columns : List ℕ) (a b : List ℤ) → in_same_group columns a b ≡ are_level (earlier_in columns) a b
-same_group [] a b = refl
-same_group (col ∷ columns) a b = grind (arith, same_group columns a b, cells_equal (cell a col) (cell b col))
-
--- a comparison by keys says who is better
-scores_sides : (x y : ℤ) (r s : Relation) → r ≡ by_sides (is_better r) (is_better s) → in_priority (by_scores x y) r ≡ by_sides (is_better (in_priority (by_scores x y) r)) (is_better (in_priority (by_scores y x) s))
-scores_sides x y r s h = grind (arith, ints)
-
-sides : (keys : List Key) (a b : List ℤ) → by_chain keys a b ≡ by_sides (better_in keys a b) (better_in keys b a)
-sides [] a b = refl
-sides (key ∷ keys) a b = scores_sides (keyed key a) (keyed key b) (by_chain keys a b) (by_chain keys b a) (sides keys a b)
-
-pub worse_in : (keys : List Key) (a b : List ℤ) → is_worse (by_chain keys a b) ≡ better_in keys b a
-worse_in keys a b = grind (arith, sides keys a b)
-
-pub same_in : (keys : List Key) (a b : List ℤ) → is_same (by_chain keys a b) ≡ are_level (better_in keys) a b
-same_in keys a b = grind (arith, sides keys a b)
+unfolding earlier_in
+same_group columns a b = sym (group_same columns a b) ∙ same_in (group_keys columns) a b
 
 -- ---- lists that are sorted by one
 

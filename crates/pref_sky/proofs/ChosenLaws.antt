@@ -1,63 +1,38 @@
 -- A chain that tells no two of some entries apart can be left out of those that lead them.
-use Rattle.pref_sky.proofs.Common.{◌≡◌, ◌<◌, ◌≤◌, ◌+◌, ◌++◌, ◌∷◌, ◌∙◌, ℕ, ℤ, true, List, [], sym, ap, subst, arith, add-one, append-nil, append_assoc}
-use Rattle.pref_sky.proofs.Common.{drop, drop-cons, drop_of_length-le, get_or, length}
-use Rattle.pref_sky.proofs.Common.{Among, Entry, better_in, by_chain, is_same}
-use Rattle.pref_sky.proofs.ChainLaws.{keys_chain, level_above, level_below, same_in}
-use Rattle.pref_sky.proofs.ListLaws.{place_of}
-use Rattle.pref_sky.specs.Chains.{tells_none_apart}
-use Rattle.pref_sky.specs.ChosenChains.{SayTheSame}
+use Rattle.pref_sky.proofs.Common.{◌≡◌, ℤ, Bool, true, false, ◌||◌, List, [], ◌∷◌, ◌≤◌, ◌∙◌, ℕ, ap, length, not, refl, subst, sym, take, take_all, arith, filter}
+use Rattle.pref_sky.proofs.Common.{Among, Entry, by_chain, entry_at, is_same}
+use Rattle.pref_sky.proofs.ChainLaws.{keys_chain, same_in}
+use Rattle.pref_sky.proofs.ListLaws.{any_from}
+use Rattle.pref_sky.specs.ChosenChains.{SayTheSame, tells_apart}
 use Rattle.pref_term.proofs.ChainLaws.{chain-append}
 use Rattle.pref_term.specs.LeadingChains.{by_product, joined}
-use Rattle.pref_term.specs.Walk.{in_priority, in_product}
 use Rattle.pref_term.specs.declared.key.Key.{Key}
-use Rattle.pref_term.specs.declared.relation.Relation.{Relation}
 
--- entries of which each is the same in a chain as the first of them are all the same in it
-same_among : (keys : List Key) (entries : List Entry) → tells_none_apart keys entries → (a b : Entry) → Among a entries → Among b entries → is_same (by_chain keys a.row b.row) ≡ true
-same_among keys entries none a b m n =
-    let first = (get_or entries 0 a).row in
-    let v = place_of entries a a m in
-    let w = place_of entries b a n in
-    grind (arith, none v.0 a v.1, none w.0 a w.1, same_in keys first a.row, same_in keys first b.row, same_in keys a.row b.row, level_above (better_in keys) (keys_chain keys) first a.row b.row, level_below (better_in keys) (keys_chain keys) first a.row b.row)
+-- entries that a chain does not tell apart are all the same in it
+same_among : (keys : List Key) (entries : List Entry) (a b : Entry) → Among a entries → Among b entries → tells_apart keys entries ≡ false → is_same (by_chain keys a.row b.row) ≡ true
+same_among keys entries a b m n none =
+    let first = (entry_at entries 0).row in
+    let test : Entry → Bool = λ e. not (is_same (by_chain keys first e.row)) in
+    let chain = keys_chain keys in
+    grind (arith, none, any_from test entries a m, any_from test entries b n, same_in keys first a.row, same_in keys first b.row, same_in keys a.row b.row, chain.between a.row first b.row, chain.between b.row first a.row)
 
--- a relation that says the same adds nothing to another
-product_of_same : (r s : Relation) → is_same r ≡ true → s ≡ in_product r s
-product_of_same r s h = grind (arith, h)
+module _ (keep : List Key → Bool) (a b : List ℤ) (none : (keys : List Key) → keep keys ≡ false → is_same (by_chain keys a b) ≡ true) where
+  -- chains in which two rows are the same add nothing to others
+  product_kept : (chains : List (List Key)) → by_product (filter keep chains) a b ≡ by_product chains a b
+  product_kept [] = refl
+  product_kept (x ∷ xs) = grind (arith, none x, product_kept xs)
 
-priority_of_same : (r s : Relation) → is_same r ≡ true → s ≡ in_priority r s
-priority_of_same r s h = grind (arith, h)
+  joined_kept : (chains : List (List Key)) → by_chain (joined (filter keep chains)) a b ≡ by_chain (joined chains) a b
+  joined_kept [] = refl
+  joined_kept (x ∷ xs) = grind (arith, none x, joined_kept xs, chain-append x (joined xs) a b, chain-append x (joined (filter keep xs)) a b)
 
--- nor does a chain that says so of two rows add anything to others
-product_without : (front back : List (List Key)) (chain : List Key) (a b : List ℤ) → is_same (by_chain chain a b) ≡ true
-    → by_product (front ++ back) a b ≡ by_product (front ++ chain ∷ back) a b
-product_without [] back chain a b h = product_of_same (by_chain chain a b) (by_product back a b) h
-product_without (x ∷ front) back chain a b h = ap (in_product (by_chain x a b)) (product_without front back chain a b h)
-
-joined_without : (front back : List (List Key)) (chain : List Key) (a b : List ℤ) → is_same (by_chain chain a b) ≡ true
-    → by_chain (joined (front ++ back)) a b ≡ by_chain (joined (front ++ chain ∷ back)) a b
-joined_without [] back chain a b h = priority_of_same (by_chain chain a b) (by_chain (joined back) a b) h ∙ sym (chain-append chain (joined back) a b)
-joined_without (x ∷ front) back chain a b h =
-    chain-append x (joined (front ++ back)) a b
-    ∙ (ap (in_priority (by_chain x a b)) (joined_without front back chain a b h) ∙ sym (chain-append x (joined (front ++ chain ∷ back)) a b))
-
--- the chains from a place on
-next_chain : (all : List (List Key)) (i : ℕ) (chain : List Key) → i < length all → chain ≡ get_or all i chain → drop i all ≡ chain ∷ drop (i + 1) all
-next_chain all i chain inside is = drop-cons all i chain inside ∙ (λ j. sym is j ∷ drop (sym (add-one i) j) all)
-
--- of those from a place on one more is told, or left out, and none is left at the end
-pub one_told : (entries : List Entry) (all told : List (List Key)) (i : ℕ) (chain : List Key) → i < length all → chain ≡ get_or all i chain → SayTheSame entries all (told ++ drop i all)
-    → SayTheSame entries all ((told ++ chain ∷ []) ++ drop (i + 1) all)
-one_told entries all told i chain inside is same =
-    subst (SayTheSame entries all) (ap (λ l. told ++ l) (next_chain all i chain inside is) ∙ sym (append_assoc told (chain ∷ []) (drop (i + 1) all))) same
-
-pub one_left_out : (entries : List Entry) (all told : List (List Key)) (i : ℕ) (chain : List Key) → i < length all → chain ≡ get_or all i chain → tells_none_apart chain entries
-    → SayTheSame entries all (told ++ drop i all) → SayTheSame entries all (told ++ drop (i + 1) all)
-one_left_out entries all told i chain inside is none same =
-    let whole : SayTheSame entries all (told ++ chain ∷ drop (i + 1) all) = subst (λ l. SayTheSame entries all (told ++ l)) (next_chain all i chain inside is) same in
-    record {
-      in_product = λ a b m n. product_without told (drop (i + 1) all) chain a.row b.row (same_among chain entries none a b m n) ∙ whole.in_product a b m n;
-      in_turn = λ a b m n. joined_without told (drop (i + 1) all) chain a.row b.row (same_among chain entries none a b m n) ∙ whole.in_turn a b m n;
-    }
-
-pub all_told : (entries : List Entry) (all told : List (List Key)) (i : ℕ) → length all ≤ i → SayTheSame entries all (told ++ drop i all) → SayTheSame entries all told
-all_told entries all told i past same = subst (SayTheSame entries all) (ap (λ l. told ++ l) (drop_of_length-le all past) ∙ append-nil told) same
+-- so those that tell some entries apart say what all do
+pub say_the_same : (entries : List Entry) (few : Bool) (chains others : List (List Key)) (i : ℕ) → length chains ≤ i → others ≡ filter (λ keys. few || tells_apart keys entries) (take i chains) → SayTheSame entries chains others
+say_the_same entries few chains others i past is =
+    let keep : List Key → Bool = λ keys. few || tells_apart keys entries in
+    let same : (a b : Entry) → Among a entries → Among b entries → (keys : List Key) → keep keys ≡ false → is_same (by_chain keys a.row b.row) ≡ true =
+    λ a b m n keys h. same_among keys entries a b m n (grind (arith, h)) in
+    subst (SayTheSame entries chains) (sym (is ∙ ap (filter keep) (take_all i chains past))) (record {
+      in_product = λ a b m n. product_kept keep a.row b.row (same a b m n) chains;
+      in_turn = λ a b m n. joined_kept keep a.row b.row (same a b m n) chains;
+    })

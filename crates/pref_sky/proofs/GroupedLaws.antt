@@ -2,12 +2,22 @@
 use Rattle.pref_sky.proofs.Common.{◌≡◌, ℕ, suc, ◌+◌, ◌<◌, ◌≤◌, Bool, true, false, not, ◌&&◌, cond, List, length, get_or, sym, ap, arith, ltb, nat_lt, nat_tests, count_by, count_before, IsPermutation}
 use Rattle.pref_sky.proofs.Common.{[], ◌∙◌, get_or-map, sum_by-IsPermutation, Ranked, in_same_group, IsChain, IsInOrder, are_level}
 use Rattle.pref_sky.proofs.AtLeastLaws.{place_passes}
-use Rattle.pref_sky.proofs.ChainLaws.{earlier_chain, places_chain, same_group}
+use Rattle.pref_sky.proofs.ChainLaws.{earlier_chain, same_group}
 use Rattle.pref_sky.proofs.ListLaws.{count_split, in_order_at, parted_by_entry}
-use Rattle.pref_sky.proofs.ChainLaws.{chain_in_turn, in_weaker_order, level_above}
+use Rattle.pref_sky.proofs.ChainLaws.{in_weaker_order, level_above}
+use Rattle.pref_sky.proofs.Common.{◌∷◌, ℤ, cell, in_turn, int_lt}
+use Rattle.std.proofs.lemmas.Int.{ints}
+use Rattle.pref_term.proofs.KeyLaws.{key_law}
+use Rattle.pref_term.specs.Preference.{low}
+use Rattle.pref_sky.specs.Chains.{earlier_in}
 use Rattle.pref_sky.specs.Grouped.{IsCounted, stands_before, entry_at, has_earlier_group}
 use Rattle.pref_sky.specs.declared.grouped.InFront.{InFront}
 use Rattle.pref_sky.specs.declared.grouped.Placed.{Placed}
+
+-- of columns the first decides where the cells differ
+pub by_first_column : (col : ℕ) (columns : List ℕ) (a b : List ℤ) → earlier_in (col ∷ columns) a b ≡ in_turn (λ x y. int_lt (cell x col) (cell y col)) (earlier_in columns) a b
+unfolding earlier_in
+by_first_column col columns a b = grind (arith, ints, key_law (low col) false a b)
 
 module _ {E : Type 0} (before : E → E → Bool) (chain : IsChain before) (xs : List E) (ordered : IsInOrder (λ a b. not (before b a)) xs) where
   place_comes : (place i : ℕ) (d : E) → i < length xs → place < length xs → before (get_or xs i d) (get_or xs place d) ≡ ltb i (count_by (λ x. before x (get_or xs place d)) xs)
@@ -31,14 +41,11 @@ module _ {E : Type 0} (before : E → E → Bool) (chain : IsChain before) (xs :
       let alike : are_level before one other ≡ true = grind (arith, level, behind) in
       λ k. count_by (λ x. level_above before chain one other x alike k) xs
 
-levels_chain : IsChain {E = Ranked} (λ a b. nat_lt a.level b.level)
-levels_chain = places_chain (λ (r : Ranked). r.level)
-
 groups_chain : (columns : List ℕ) → IsChain (has_earlier_group columns)
 groups_chain columns = grind (arith, earlier_chain columns)
 
 pub order_chain : (columns : List ℕ) → IsChain (stands_before columns)
-order_chain columns = chain_in_turn (has_earlier_group columns) (λ a b. nat_lt a.level b.level) (groups_chain columns) levels_chain
+order_chain columns = grind (arith, earlier_chain columns)
 
 module _ (columns : List ℕ) (all : List Ranked) (ordered : IsInOrder (λ a b. not (stands_before columns b a)) all) where
   by_group : IsInOrder (λ a b. not (has_earlier_group columns b a)) all

@@ -1,8 +1,8 @@
 -- A question's order of entries, and the one in which they are kept, which is a chain: what dominates another comes before it.
-use Rattle.pref_sky.proofs.Common.{◌≡◌, ℕ, false, not, List, [], sym, ◌∙◌, ap, arith, nat_lt, not-true, cases_lt, inl, inr, ◌<◌, ◌≤◌, length, IsStrictOrder, order_of, order_of_is_row_order}
+use Rattle.pref_sky.proofs.Common.{◌≡◌, ℕ, false, not, List, [], sym, ◌∙◌, ap, arith, nat_lt, cases_lt, ◌<◌, ◌≤◌, length, IsStrictOrder, order_of, order_of_is_row_order}
 use Rattle.pref_sky.proofs.Common.{Entry, OwnOrder, AreInOrder, comes_before, own_order, own_levels, entry_order, entry_at, better_in, by_row, IsChain, RowOrder, levels}
 use Rattle.pref_term.specs.Extension.{ask_keys}
-use Rattle.pref_sky.proofs.ChainLaws.{chain_in_turn, chain_of_entries, keys_chain, places_chain}
+use Rattle.pref_sky.proofs.ChainLaws.{chain_in_turn, keys_chain}
 use Rattle.pref_sky.proofs.ListLaws.{in_order_at}
 use Rattle.pref_sky.proofs.Merges.{entry_order_is_strict}
 
@@ -15,14 +15,9 @@ own_levels_are order own cut is all = ap (λ o. levels (entry_order o) all cut) 
 
 -- the order in which entries are kept is a chain
 pub before_is_chain : (order : OwnOrder) → IsChain (comes_before order)
-before_is_chain order =
-    chain_in_turn (by_row (better_in (ask_keys order.ask))) (λ a b. nat_lt a.id b.id) (chain_of_entries (better_in (ask_keys order.ask)) (keys_chain (ask_keys order.ask))) (places_chain (λ e. e.id))
+before_is_chain order = chain_in_turn (by_row (better_in (ask_keys order.ask))) (λ a b. nat_lt a.id b.id) (grind (arith, keys_chain (ask_keys order.ask))) (grind arith)
 
 -- in a list in this order none comes before what stands in front of it
 pub stands_behind : (order : OwnOrder) (xs : List Entry) → AreInOrder order xs → (j p : ℕ) → j ≤ p → p < length xs → comes_before order (entry_at xs p) (entry_at xs j) ≡ false
 stands_behind order xs ordered j p le inside =
-    let before = comes_before order in
-    elim (cases_lt j p) [
-      | inl less ↦ not-true (before (entry_at xs p) (entry_at xs j)) (in_order_at (λ a b. not (before b a)) xs j p (record { id = 0; row = [] }) ordered less inside)
-      | inr past ↦ let same : j ≡ p = omega (arith, le, past) in ap (λ k. before (entry_at xs p) (entry_at xs k)) same ∙ (before_is_chain order).strict.irreflexive (entry_at xs p)
-    ]
+    grind (arith, cases_lt j p, in_order_at (λ a b. not (comes_before order b a)) xs j p (record { id = 0; row = [] }) ordered, (before_is_chain order).strict.irreflexive (entry_at xs p))

@@ -1,8 +1,8 @@
 -- Chains: weak orders, and lists in an order. A list of keys is one, and so are the columns of groups. (this project)
-use Rattle.std.specs.Prelude.{⊤, ◌≡◌, ◌<◌, Bool, true, false, not, ◌&&◌, ◌||◌, int_lt, ℕ, ℤ, List, [], ◌∷◌, get_or, length}
-use Rattle.pref_term.specs.Better.{cell}
+use Rattle.std.specs.Prelude.{⊤, ◌≡◌, Bool, true, false, not, ◌&&◌, ◌||◌, ℕ, ℤ, List, [], ◌∷◌}
 use Rattle.pref_term.specs.Chains.{by_chain}
-use Rattle.pref_term.specs.Order.{IsStrictOrder, is_better, is_same}
+use Rattle.pref_term.specs.Extension.{group_keys}
+use Rattle.pref_term.specs.Order.{IsStrictOrder, is_better}
 use Rattle.pref_term.specs.declared.key.Key.{Key}
 use Rattle.pref_sky.specs.Members.{Among}
 use Rattle.pref_sky.specs.declared.entry.Entry.{Entry}
@@ -33,15 +33,10 @@ IsInOrder {E = E} before (e ∷ others) = ((x : E) → Among x others → before
 abbrev pub better_in : List Key → List ℤ → List ℤ → Bool
 better_in keys a b = is_better (by_chain keys a b)
 
--- by the first of these columns in which the cells differ, of which the smaller one is earlier
-abbrev pub earlier_in : List ℕ → List ℤ → List ℤ → Bool
-earlier_in [] a b = false
-earlier_in (col ∷ columns) a b = in_turn (λ x y. int_lt (cell x col) (cell y col)) (earlier_in columns) a b
+-- by the columns of groups: by the first in which the cells differ, of which the smaller one is earlier
+unfoldable pub earlier_in : List ℕ → List ℤ → List ℤ → Bool
+earlier_in columns = better_in (group_keys columns)
 
 -- of entries, by their rows
 abbrev pub by_row : (List ℤ → List ℤ → Bool) → Entry → Entry → Bool
 by_row better a b = better a.row b.row
-
--- each of some entries is the same in a chain as the first of them
-abbrev pub tells_none_apart : List Key → List Entry → Type 0
-tells_none_apart keys entries = (i : ℕ) (d : Entry) → i < length entries → is_same (by_chain keys (get_or entries 0 d).row (get_or entries i d).row) ≡ true

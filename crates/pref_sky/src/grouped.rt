@@ -26,6 +26,7 @@ pub(crate) struct InFront {
 }
 
 /// Which of two rows stands first by the first of these columns in which they differ.
+#[tactic(auto, using(crate::proofs::GroupedLaws::by_first_column), unfolding(crate::specs::Chains::earlier_in))]
 #[inline(always)]
 pub(crate) fn compare_groups(columns: &[usize], a: &Row, b: &Row) -> Ordering
     requires { All (λ col. col < 16) columns.now }

@@ -1,13 +1,11 @@
 //! What leads the order of entries in a sweep: up to three chains, whose product decides wherever it sees a difference.
 
-ghost use Rattle.std.specs.Prelude.{◌≡◌, ◌&&◌, ◌⊎◌, [], suc, true, false, All, IfOk, get_or, map};
+ghost use Rattle.std.specs.Prelude.{◌≡◌, ◌≤◌, ◌&&◌, ◌⊎◌, [], suc, true, false, All, IfOk, get_or, length, map};
 ghost use Rattle.pref_term.specs.Chains.{AreInRow, by_chain};
 ghost use Rattle.pref_term.specs.Extension.{ask_keys};
-ghost use Rattle.pref_term.specs.LeadingChains.{Leads};
-ghost use Rattle.pref_term.specs.Question.{Question};
 ghost use Rattle.pref_term.specs.Order.{StandAlike, is_same};
-ghost use Rattle.pref_sky.specs.Chains.{better_in, earlier_in, in_turn, tells_none_apart};
-ghost use Rattle.pref_sky.specs.ChosenChains.{LeadAmong, SameInProduct, SayTheSame};
+ghost use Rattle.pref_sky.specs.Chains.{better_in, earlier_in, in_turn};
+ghost use Rattle.pref_sky.specs.ChosenChains.{SayTheSame, tells_apart};
 ghost use Rattle.pref_sky.specs.Held.{AreHeld};
 ghost use Rattle.pref_sky.specs.OwnOrders.{AreInOrder, own_order};
 ghost use Rattle.pref_sky.specs.Sweep.{are_level_in};
@@ -19,7 +17,7 @@ use crate::signatures::{scales_behind, scales_of};
 use crate::sweep::Standing;
 use pref_table::Row;
 use pref_term::Relation;
-use pref_term::engine::{Chain, Leading, Scales, in_same_group};
+use pref_term::engine::{Chain, Scales, in_same_group};
 use std::alloc::{AllocError, Global};
 use std::cmp::Ordering;
 
@@ -41,13 +39,13 @@ pub(crate) struct Lead<'a> {
     pub(crate) scales: Scales,
     /// The levels of which these entries were when they were held already, from 1 on; 0 of one that is new.
     pub(crate) held: Vec<u32>,
-    ghost in_row: { All AreInRow (map (λ chain. chain.now) chains.items) },
+    ghost in_row: { All (λ chain. AreInRow chain.now) chains.items },
 }
 
 /// Whether one of these entries differs from the first in a chain.
 fn tells_apart(chain: &Chain, entries: &[Entry]) -> bool
     requires { AreInRow chain.now }
-    ensures { result ≡ false → tells_none_apart chain.now entries.now }
+    ensures { result ≡ tells_apart chain.now entries.now }
 {
     for entry in entries {
         if !chain.compare(&entries[0].row, &entry.row).is_same() {
@@ -57,56 +55,29 @@ fn tells_apart(chain: &Chain, entries: &[Entry]) -> bool
     false
 }
 
-/// The chains that tell some of these entries apart.
-fn telling_chains<'a>(
+/// The chains that lead these entries: those that lead the order, where they are no more than three; else those of them that tell
+/// entries apart, and none where these are more than three too.
+fn chosen_chains<'a>(
     alloc: Global,
     chains: &'a [Chain],
     entries: &[Entry],
 ) -> Result<Vec<&'a Chain>, AllocError>
     requires { All AreInRow chains.now }
-    ensures in_row { IfOk result (λ telling. All AreInRow (map (λ chain. chain.now) telling.items)) }
-    ensures same { IfOk result (λ telling. SayTheSame entries.now chains.now (map (λ chain. chain.now) telling.items)) }
+    ensures few { IfOk result (λ chosen. length chosen.items ≤ 3) }
+    ensures in_row { IfOk result (λ chosen. All (λ chain. AreInRow chain.now) chosen.items) }
+    ensures same { IfOk result (λ chosen. (chosen.items ≡ []) ⊎ SayTheSame entries.now chains.now (map (λ chain. chain.now) chosen.items)) }
 {
-    let mut telling = Vec::new(alloc);
+    let few = chains.len() <= MAX_CHAINS;
+    let mut chosen = Vec::with_capacity(alloc, chains.len())?;
     for chain in chains {
-        if tells_apart(chain, entries) {
-            telling.push(chain)?;
+        if few || tells_apart(chain, entries) {
+            chosen.push(chain)?;
         }
     }
-    Ok(telling)
-}
-
-/// The chains that lead these entries: those that lead the order, where they are no more than three; else those of them that tell
-/// entries apart, and none where these are more than three too.
-fn chosen_chains<'a>(
-    alloc: Global,
-    leading: &Leading<'a>,
-    entries: &[Entry],
-) -> Result<Vec<&'a Chain>, AllocError>
-    requires { All AreInRow leading.now.chains.now }
-    ensures lead { IfOk result (λ chosen. (q : Question) → Leads q leading.now.chains.now leading.now.behind.now → LeadAmong q entries.now (map (λ chain. chain.now) chosen.items)) }
-    ensures same { IfOk result (λ chosen. (chosen.items ≡ []) ⊎ SameInProduct entries.now leading.now.chains.now (map (λ chain. chain.now) chosen.items)) }
-{
-    let chains = leading.chains;
-    if chains.len() <= MAX_CHAINS {
-        return all_chains(alloc, chains);
-    }
-    let telling = telling_chains(alloc, chains, entries)?;
-    if telling.len() > MAX_CHAINS {
+    if chosen.len() > MAX_CHAINS {
         return Ok(Vec::new(alloc));
     }
-    Ok(telling)
-}
-
-/// All of these chains.
-fn all_chains<'a>(alloc: Global, chains: &'a [Chain]) -> Result<Vec<&'a Chain>, AllocError>
-    ensures { IfOk result (λ all. map (λ chain. chain.now) all.items ≡ chains.now) }
-{
-    let mut all = Vec::with_capacity(alloc, chains.len())?;
-    for chain in chains {
-        all.push(chain)?;
-    }
-    Ok(all)
+    Ok(chosen)
 }
 
 impl<'a> Lead<'a> {
@@ -128,7 +99,7 @@ impl<'a> Lead<'a> {
         ensures { IfOk result (λ lead. LeadsSweep order.now lead entries.now) }
     {
         let leading = order.ask.leading();
-        let chains = chosen_chains(alloc, &leading, entries)?;
+        let chains = chosen_chains(alloc, leading.chains, entries)?;
         let scales = if chains.is_empty() {
             scales_of(alloc, &order.ask, entries)?
         } else {
@@ -175,6 +146,7 @@ impl<'a> Lead<'a> {
     }
 
     /// How an entry stands to the one before it. Cost: for entries that are alike one comparison of their rows.
+    #[tactic(auto, using(crate::proofs::LeadLaws::level_is, crate::proofs::LeadLaws::alike_entries))]
     pub(crate) fn standing(&self, order: &OwnOrder, before: &Entry, entry: &Entry) -> Standing
         // The chains see no difference that the question's keys do not.
         requires { is_same (by_chain (ask_keys order.now.ask) before.now.row entry.now.row) ≡ true

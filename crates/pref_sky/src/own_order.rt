@@ -48,7 +48,7 @@ impl OwnOrder {
     }
 
     /// Which of two entries stands first: by the question's keys from left to right, and then by id. Takes no memory.
-    #[tactic(auto, using(crate::proofs::ChainLaws::worse_in, crate::proofs::ChainLaws::same_in))]
+    #[tactic(auto, using(pref_term::proofs::ExtensionLaws::chain_back, crate::proofs::ChainLaws::same_in))]
     pub(crate) fn compare(&self, a: &Entry, b: &Entry) -> Ordering
         ensures less { is_lt result ≡ comes_before self.now a.now b.now }
         ensures greater { is_gt result ≡ comes_before self.now b.now a.now }

@@ -48,7 +48,7 @@ second_fits r s h k = grind (arith, h, k)
 -- ---- lists of chains
 
 -- rows are the same in the chains one after the other just where they are the same in their product
-same_joined : (chains : List (List Key)) (a b : List ℤ) → is_same (by_chain (joined chains) a b) ≡ is_same (by_product chains a b)
+pub same_joined : (chains : List (List Key)) (a b : List ℤ) → is_same (by_chain (joined chains) a b) ≡ is_same (by_product chains a b)
 same_joined [] a b = refl
 same_joined (chain ∷ chains) a b = grind (arith, chain-append chain (joined chains) a b, same_joined chains a b, priority-same, product-same)
 

@@ -1,6 +1,6 @@
-use Rattle.pref_sky.proofs.Common.{◌≡◌, ◌<◌, ℕ, true, get_or, by_chain, is_same, Entry}
+use Rattle.pref_sky.proofs.Common.{◌≡◌, by_chain, entry_at, false, is_same, list_any, not, take}
 use Rattle.pref_sky.proofs.lead.tells_apart.Given as goal
 
 -- none so far differs
 abbrev pub invariant-loop-entry : goal.invariant-loop-entry
-invariant-loop-entry l = (i : ℕ) (d : Entry) → i < l.entry-index → is_same (by_chain l.chain (get_or l.entries 0 d).row (get_or l.entries i d).row) ≡ true
+invariant-loop-entry l = list_any (λ e. not (is_same (by_chain l.chain (entry_at l.entries 0).row e.row))) (take l.entry-index l.entries) ≡ false

@@ -1,0 +1,6 @@
+use Rattle.pref_sky.proofs.Common.{inr}
+use Rattle.pref_sky.proofs.ChosenLaws.{say_the_same}
+use Rattle.pref_sky.proofs.lead.chosen_chains.Goals as goal
+
+pub returns-clause-same : goal.returns-clause-same
+returns-clause-same c = inr (say_the_same c.args.entries.now _ c.args.chains.now _ c.loop-chain.chain-index c.loop-chain-test.false c.loop-chain.invariant.chosen)
