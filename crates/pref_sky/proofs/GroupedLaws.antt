@@ -1,5 +1,5 @@
 -- In a list in the order of a chain, how many come before an entry; and of entries group by group, how many of an entry's group are on lower levels.
-use Rattle.pref_sky.proofs.Common.{◌≡◌, ℕ, suc, ◌+◌, ◌<◌, ◌≤◌, Bool, true, false, not, ◌&&◌, cond, List, length, get_or, sym, ap, arith, ltb, nat_lt, nat_tests, count_by, count_before, IsPermutation}
+use Rattle.pref_sky.proofs.Common.{◌≡◌, ℕ, suc, ◌+◌, ◌<◌, ◌≤◌, Bool, true, false, not, ◌&&◌, cond, List, length, get_or, sym, ap, arith, cases_Bool, inl, inr, leb, ltb, nat_tests, count_by, count_before, IsPermutation}
 use Rattle.pref_sky.proofs.Common.{[], ◌∙◌, get_or-map, sum_by-IsPermutation, Ranked, in_same_group, IsChain, IsInOrder, are_level}
 use Rattle.pref_sky.proofs.AtLeastLaws.{place_passes}
 use Rattle.pref_sky.proofs.ChainLaws.{earlier_chain, same_group}
@@ -9,10 +9,10 @@ use Rattle.pref_sky.proofs.Common.{◌∷◌, ℤ, cell, in_turn, int_lt}
 use Rattle.std.proofs.lemmas.Int.{ints}
 use Rattle.pref_term.proofs.KeyLaws.{key_law}
 use Rattle.pref_term.specs.Preference.{low}
-use Rattle.pref_sky.specs.Chains.{earlier_in}
 use Rattle.pref_sky.specs.Grouped.{IsCounted, stands_before, entry_at, has_earlier_group}
 use Rattle.pref_sky.specs.declared.grouped.InFront.{InFront}
 use Rattle.pref_sky.specs.declared.grouped.Placed.{Placed}
+use Rattle.pref_sky.specs.Chains.{earlier_in}
 
 -- of columns the first decides where the cells differ
 pub by_first_column : (col : ℕ) (columns : List ℕ) (a b : List ℤ) → earlier_in (col ∷ columns) a b ≡ in_turn (λ x y. int_lt (cell x col) (cell y col)) (earlier_in columns) a b
@@ -27,19 +27,19 @@ module _ {E : Type 0} (before : E → E → Bool) (chain : IsChain before) (xs :
   few_before : (place : ℕ) (d : E) → place < length xs → count_by (λ x. before x (get_or xs place d)) xs ≤ place
   few_before place d inside = grind (arith, nat_tests, place_comes place place d inside inside, chain.strict.irreflexive (get_or xs place d))
 
-  -- all do, where the one just in front does
-  all_before : (i place : ℕ) (d : E) → suc i ≡ place → place < length xs → before (get_or xs i d) (get_or xs place d) ≡ true → place ≡ count_by (λ x. before x (get_or xs place d)) xs
-  all_before i place d next inside comes = grind (arith, nat_tests, few_before place d inside, place_comes place i d (omega arith) inside)
-
-  -- as many as before the one just in front, where that does not
-  as_before : (i place : ℕ) (d : E) → suc i ≡ place → place < length xs → before (get_or xs i d) (get_or xs place d) ≡ false
-      → count_by (λ x. before x (get_or xs i d)) xs ≡ count_by (λ x. before x (get_or xs place d)) xs
-  as_before i place d next inside level =
+  -- all in front come before an entry where the one just in front does; else as many as before that one
+  counted_next : (i place : ℕ) (d : E) → suc i ≡ place → place < length xs
+      → count_by (λ x. before x (get_or xs place d)) xs ≡ cond (before (get_or xs i d) (get_or xs place d)) place (count_by (λ x. before x (get_or xs i d)) xs)
+  counted_next i place d next inside =
       let one = get_or xs i d in
       let other = get_or xs place d in
-      let behind = in_order_at (λ a b. not (before b a)) xs i place d ordered (omega arith) inside in
-      let alike : are_level before one other ≡ true = grind (arith, level, behind) in
-      λ k. count_by (λ x. level_above before chain one other x alike k) xs
+      elim (cases_Bool (before one other)) [
+        | inl comes ↦ grind (arith, nat_tests, few_before place d inside, place_comes place i d (omega arith) inside)
+        | inr level ↦
+            let alike : are_level before one other ≡ true = grind (arith, level, in_order_at (λ a b. not (before b a)) xs i place d ordered (omega arith) inside) in
+            let same : count_by (λ x. before x one) xs ≡ count_by (λ x. before x other) xs = λ k. count_by (λ x. level_above before chain one other x alike k) xs in
+            grind (arith, level, same)
+      ]
 
 groups_chain : (columns : List ℕ) → IsChain (has_earlier_group columns)
 groups_chain columns = grind (arith, earlier_chain columns)
@@ -58,38 +58,18 @@ module _ (columns : List ℕ) (all : List Ranked) (ordered : IsInOrder (λ a b. 
         level = omega (arith, few_before (stands_before columns) (order_chain columns) all ordered 0 d some);
       }
 
-  module _ (i place : ℕ) (d : Ranked) (next : suc i ≡ place) (inside : place < length all) where
-    pub group_begins : in_same_group columns (get_or all i d).row (get_or all place d).row ≡ false → IsCounted columns all (get_or all place d) (record { group = place; level = place })
-    group_begins other =
-        let one = get_or all i d in
-        let this = get_or all place d in
-        let behind = in_order_at (λ a b. not (has_earlier_group columns b a)) all i place d by_group (omega arith) inside in
-        let earlier : has_earlier_group columns one this ≡ true = grind (arith, behind, same_group columns one.row this.row) in
-        record {
-          group = all_before (has_earlier_group columns) (groups_chain columns) all by_group i place d next inside earlier;
-          level = all_before (stands_before columns) (order_chain columns) all ordered i place d next inside (grind (arith, earlier));
-        }
-
-    module _ (last : InFront) (counted : IsCounted columns all (get_or all i d) last) (same : in_same_group columns (get_or all i d).row (get_or all place d).row ≡ true) where
-      not_earlier : has_earlier_group columns (get_or all i d) (get_or all place d) ≡ false
-      not_earlier = grind (arith, same_group columns (get_or all i d).row (get_or all place d).row)
-
-      group_goes_on : last.group ≡ count_by (λ other. has_earlier_group columns other (get_or all place d)) all
-      group_goes_on = grind (arith, counted.group, as_before (has_earlier_group columns) (groups_chain columns) all by_group i place d next inside not_earlier)
-
-      pub level_begins : (get_or all i d).level < (get_or all place d).level → IsCounted columns all (get_or all place d) (record { group = last.group; level = place })
-      level_begins below =
-          record {
-            group = group_goes_on;
-            level = all_before (stands_before columns) (order_chain columns) all ordered i place d next inside (grind (arith, nat_tests, below, same_group columns (get_or all i d).row (get_or all place d).row));
-          }
-
-      pub level_goes_on : (get_or all place d).level ≤ (get_or all i d).level → IsCounted columns all (get_or all place d) last
-      level_goes_on alike =
-          record {
-            group = group_goes_on;
-            level = grind (arith, counted.level, as_before (stands_before columns) (order_chain columns) all ordered i place d next inside (grind (arith, nat_tests, not_earlier, alike)));
-          }
+  -- where the group or the level of the one just in front goes on, as many as of that one, else all in front
+  pub next_counted : (i place : ℕ) (d : Ranked) → suc i ≡ place → place < length all → (last front : InFront) → IsCounted columns all (get_or all i d) last
+      → front.group ≡ cond (in_same_group columns (get_or all i d).row (get_or all place d).row) last.group place
+      → front.level ≡ cond (in_same_group columns (get_or all i d).row (get_or all place d).row && leb (get_or all place d).level (get_or all i d).level) last.level place
+      → IsCounted columns all (get_or all place d) front
+  next_counted i place d next inside last front counted group level =
+      let same = same_group columns (get_or all i d).row (get_or all place d).row in
+      let behind = in_order_at (λ a b. not (stands_before columns b a)) all i place d ordered (omega arith) inside in
+      record {
+        group = grind (arith, counted.group, group, same, behind, counted_next (has_earlier_group columns) (groups_chain columns) all by_group i place d next inside);
+        level = grind (arith, nat_tests, counted.level, level, same, behind, counted_next (stands_before columns) (order_chain columns) all ordered i place d next inside);
+      }
 
 -- those of the group on lower levels are those in front of the level but not of the group
 pub counted_in_group : (columns : List ℕ) (ranked all : List Ranked) → IsPermutation ranked all → (r : Ranked)
