@@ -1,6 +1,6 @@
 -- In a list in the order of a chain, how many come before an entry; and of entries group by group, how many of an entry's group are on lower levels.
 use Rattle.pref_sky.proofs.Common.{◌≡◌, ℕ, suc, ◌+◌, ◌<◌, ◌≤◌, Bool, true, false, not, ◌&&◌, cond, List, length, get_or, sym, ap, arith, cases_Bool, inl, inr, leb, ltb, nat_tests, count_by, count_before, IsPermutation}
-use Rattle.pref_sky.proofs.Common.{[], ◌∙◌, get_or-map, sum_by-IsPermutation, Ranked, in_same_group, IsChain, IsInOrder, are_level}
+use Rattle.pref_sky.proofs.Common.{[], ◌∙◌, get_or-map, length-map, ◌-◌, sum_by-IsPermutation, Ranked, in_same_group, IsChain, IsInOrder, are_level}
 use Rattle.pref_sky.proofs.AtLeastLaws.{place_passes}
 use Rattle.pref_sky.proofs.ChainLaws.{earlier_chain, same_group}
 use Rattle.pref_sky.proofs.ListLaws.{count_split, in_order_at, parted_by_entry}
@@ -9,7 +9,7 @@ use Rattle.pref_sky.proofs.Common.{◌∷◌, ℤ, cell, in_turn, int_lt}
 use Rattle.std.proofs.lemmas.Int.{ints}
 use Rattle.pref_term.proofs.KeyLaws.{key_law}
 use Rattle.pref_term.specs.Preference.{low}
-use Rattle.pref_sky.specs.Grouped.{IsCounted, stands_before, entry_at, has_earlier_group}
+use Rattle.pref_sky.specs.Grouped.{IsCounted, entries, stands_before, entry_at, has_earlier_group}
 use Rattle.pref_sky.specs.declared.grouped.InFront.{InFront}
 use Rattle.pref_sky.specs.declared.grouped.Placed.{Placed}
 use Rattle.pref_sky.specs.Chains.{earlier_in}
@@ -47,28 +47,39 @@ groups_chain columns = grind (arith, earlier_chain columns)
 pub order_chain : (columns : List ℕ) → IsChain (stands_before columns)
 order_chain columns = grind (arith, earlier_chain columns)
 
-module _ (columns : List ℕ) (all : List Ranked) (ordered : IsInOrder (λ a b. not (stands_before columns b a)) all) where
-  by_group : IsInOrder (λ a b. not (has_earlier_group columns b a)) all
-  by_group = in_weaker_order (λ a b. not (stands_before columns b a)) (λ a b. not (has_earlier_group columns b a)) (λ a b h. grind (arith, h)) all ordered
+pub read_at : (placed : List Placed) (place : ℕ) (read : Placed) → place < length placed → read ≡ get_or placed place read → entry_at placed place ≡ read.entry.now
+read_at placed place read inside is = get_or-map (λ (p : Placed). p.entry.now) placed place read (record { level = 0; id = 0; row = [] }) inside ∙ ap (λ (p : Placed). p.entry.now) (sym is)
 
-  pub first_counted : (d : Ranked) → 0 < length all → IsCounted columns all (get_or all 0 d) (record { group = 0; level = 0 })
-  first_counted d some =
+module _ (columns : List ℕ) (placed : List Placed) (ordered : IsInOrder (λ a b. not (stands_before columns b a)) (entries placed)) where
+  by_group : IsInOrder (λ a b. not (has_earlier_group columns b a)) (entries placed)
+  by_group = in_weaker_order (λ a b. not (stands_before columns b a)) (λ a b. not (has_earlier_group columns b a)) (λ a b h. grind (arith, h)) (entries placed) ordered
+
+  long : length (entries placed) ≡ length placed
+  long = length-map placed (λ (p : Placed). p.entry.now)
+
+  pub first_counted : 0 < length placed → IsCounted columns (entries placed) (entry_at placed 0) (record { group = 0; level = 0 })
+  first_counted some =
       record {
-        group = omega (arith, few_before (has_earlier_group columns) (groups_chain columns) all by_group 0 d some);
-        level = omega (arith, few_before (stands_before columns) (order_chain columns) all ordered 0 d some);
+        group = omega (arith, few_before (has_earlier_group columns) (groups_chain columns) (entries placed) by_group 0 (record { level = 0; id = 0; row = [] }) (omega (arith, some, long)));
+        level = omega (arith, few_before (stands_before columns) (order_chain columns) (entries placed) ordered 0 (record { level = 0; id = 0; row = [] }) (omega (arith, some, long)));
       }
 
   -- where the group or the level of the one just in front goes on, as many as of that one, else all in front
-  pub next_counted : (i place : ℕ) (d : Ranked) → suc i ≡ place → place < length all → (last front : InFront) → IsCounted columns all (get_or all i d) last
-      → front.group ≡ cond (in_same_group columns (get_or all i d).row (get_or all place d).row) last.group place
-      → front.level ≡ cond (in_same_group columns (get_or all i d).row (get_or all place d).row && leb (get_or all place d).level (get_or all i d).level) last.level place
-      → IsCounted columns all (get_or all place d) front
-  next_counted i place d next inside last front counted group level =
-      let same = same_group columns (get_or all i d).row (get_or all place d).row in
-      let behind = in_order_at (λ a b. not (stands_before columns b a)) all i place d ordered (omega arith) inside in
+  pub next_counted : (at : ℕ) (one this : Placed) → 0 < at → at < length placed → one ≡ get_or placed (at - 1) one → this ≡ get_or placed at this
+      → (last front : InFront) → IsCounted columns (entries placed) (entry_at placed (at - 1)) last
+      → front.group ≡ cond (in_same_group columns one.entry.now.row this.entry.now.row) last.group at
+      → front.level ≡ cond (in_same_group columns one.entry.now.row this.entry.now.row && leb this.entry.now.level one.entry.now.level) last.level at → IsCounted columns (entries placed) (entry_at placed at) front
+  next_counted at one this some inside is_one is_this last front counted group level =
+      let d : Ranked = record { level = 0; id = 0; row = [] } in
+      let within : at < length (entries placed) = omega (arith, inside, long) in
+      let next : suc (at - 1) ≡ at = omega arith in
+      let first = read_at placed (at - 1) one (omega (arith, inside)) is_one in
+      let second = read_at placed at this inside is_this in
+      let same = same_group columns one.entry.now.row this.entry.now.row in
+      let behind = in_order_at (λ a b. not (stands_before columns b a)) (entries placed) (at - 1) at d ordered (omega arith) within in
       record {
-        group = grind (arith, counted.group, group, same, behind, counted_next (has_earlier_group columns) (groups_chain columns) all by_group i place d next inside);
-        level = grind (arith, nat_tests, counted.level, level, same, behind, counted_next (stands_before columns) (order_chain columns) all ordered i place d next inside);
+        group = grind (arith, first, second, counted.group, group, same, behind, counted_next (has_earlier_group columns) (groups_chain columns) (entries placed) by_group (at - 1) at d next within);
+        level = grind (arith, nat_tests, first, second, counted.level, level, same, behind, counted_next (stands_before columns) (order_chain columns) (entries placed) ordered (at - 1) at d next within);
       }
 
 -- those of the group on lower levels are those in front of the level but not of the group
@@ -78,6 +89,3 @@ counted_in_group columns ranked all moved r =
     let mine : Ranked → Bool = λ s. in_same_group columns s.row r.row && ltb s.level r.level in
     let each : (s : Ranked) → cond {A = ℕ} (has_earlier_group columns s r) 1 0 + cond (mine s) 1 0 ≡ cond (stands_before columns s r) 1 0 = λ s. grind (arith, same_group columns s.row r.row) in
     omega (arith, sum_by-IsPermutation (λ (s : Ranked). cond {A = ℕ} (mine s) 1 0) ranked all moved, count_split (λ s. has_earlier_group columns s r) mine (λ s. stands_before columns s r) all each)
-
-pub read_at : (placed : List Placed) (place : ℕ) (read : Placed) → place < length placed → read ≡ get_or placed place read → entry_at placed place ≡ read.entry.now
-read_at placed place read inside is = get_or-map (λ (p : Placed). p.entry.now) placed place read (record { level = 0; id = 0; row = [] }) inside ∙ ap (λ (p : Placed). p.entry.now) (sym is)
