@@ -1,11 +1,10 @@
 -- A chain that tells no two of some entries apart can be left out of those that lead them.
-use Rattle.pref_sky.proofs.Common.{◌≡◌, ℤ, Bool, true, false, ◌||◌, List, [], ◌∷◌, ◌≤◌, ◌∙◌, ℕ, ap, length, not, refl, subst, sym, take, take_all, arith, filter}
+use Rattle.pref_sky.proofs.Common.{◌≡◌, Bool, true, false, ◌||◌, List, ◌≤◌, ◌∙◌, ℕ, ap, length, not, subst, sym, take, take_all, arith, filter}
 use Rattle.pref_sky.proofs.Common.{Among, Entry, by_chain, entry_at, is_same}
 use Rattle.pref_sky.proofs.ChainLaws.{keys_chain, same_in}
 use Rattle.pref_sky.proofs.ListLaws.{any_from}
 use Rattle.pref_sky.specs.ChosenChains.{SayTheSame, tells_apart}
-use Rattle.pref_term.proofs.ChainLaws.{chain-append}
-use Rattle.pref_term.specs.LeadingChains.{by_product, joined}
+use Rattle.pref_term.proofs.LeadingLaws.{joined_kept, product_kept}
 use Rattle.pref_term.specs.declared.key.Key.{Key}
 
 -- entries that a chain does not tell apart are all the same in it
@@ -15,16 +14,6 @@ same_among keys entries a b m n none =
     let test : Entry → Bool = λ e. not (is_same (by_chain keys first e.row)) in
     let chain = keys_chain keys in
     grind (arith, none, any_from test entries a m, any_from test entries b n, same_in keys first a.row, same_in keys first b.row, same_in keys a.row b.row, chain.between a.row first b.row, chain.between b.row first a.row)
-
-module _ (keep : List Key → Bool) (a b : List ℤ) (none : (keys : List Key) → keep keys ≡ false → is_same (by_chain keys a b) ≡ true) where
-  -- chains in which two rows are the same add nothing to others
-  product_kept : (chains : List (List Key)) → by_product (filter keep chains) a b ≡ by_product chains a b
-  product_kept [] = refl
-  product_kept (x ∷ xs) = grind (arith, none x, product_kept xs)
-
-  joined_kept : (chains : List (List Key)) → by_chain (joined (filter keep chains)) a b ≡ by_chain (joined chains) a b
-  joined_kept [] = refl
-  joined_kept (x ∷ xs) = grind (arith, none x, joined_kept xs, chain-append x (joined xs) a b, chain-append x (joined (filter keep xs)) a b)
 
 -- so those that tell some entries apart say what all do
 pub say_the_same : (entries : List Entry) (few : Bool) (chains others : List (List Key)) (i : ℕ) → length chains ≤ i → others ≡ filter (λ keys. few || tells_apart keys entries) (take i chains) → SayTheSame entries chains others

@@ -1,7 +1,7 @@
 -- What leads some entries in order makes their order one that a sweep can go by: groups first, and within a group by the product of three chains.
-use Rattle.pref_sky.proofs.Common.{◌≡◌, ◌≤◌, ◌&&◌, ◌||◌, ◌⊎◌, ◌∷◌, ◌∙◌, ℕ, ℤ, Bool, true, false, List, [], sym, ap, arith, length, length-map, map, nat_lt, subst}
+use Rattle.pref_sky.proofs.Common.{◌≡◌, ◌≤◌, ◌&&◌, ◌||◌, ◌⊎◌, ◌∙◌, ℕ, ℤ, Bool, true, false, List, [], sym, ap, arith, length, length-map, map, nat_lt, subst}
 use Rattle.pref_sky.proofs.Common.{All, AreInOrder, Among, Entry, OwnOrder, Question, StandAlike, Suit, are_level, better_in, by_chain, comes_before, comes_first}
-use Rattle.pref_sky.proofs.Common.{entry_at, get_or, in_same_group, in_turn, is_better, is_same, is_worse, and_parts}
+use Rattle.pref_sky.proofs.Common.{entry_at, in_same_group, in_turn, is_better, is_same, is_worse, and_parts}
 use Rattle.pref_sky.proofs.Common.{order_of, order_of_stays_in_groups, own_order}
 use Rattle.pref_sky.proofs.ChainLaws.{earlier_chain, keys_chain, same_group, same_in}
 use Rattle.pref_sky.proofs.ListLaws.{among_place}
@@ -11,10 +11,9 @@ use Rattle.pref_sky.specs.Leads.{AreSigned, LeadsSweep, chain_at, chains_of, fir
 use Rattle.pref_sky.specs.Held.{AreHeld}
 use Rattle.pref_sky.specs.Sweep.{are_level_in, is_ahead}
 use Rattle.pref_sky.specs.declared.lead.Lead.{Lead}
-use Rattle.pref_term.proofs.ChainLaws.{chain-append, priority_same}
+use Rattle.pref_term.proofs.ChainLaws.{chain-append}
 use Rattle.pref_term.proofs.ExtensionLaws.{ask_alike, ask_extended, ask_same, chain_back, chain_decided}
-use Rattle.pref_term.proofs.KeyLaws.{product_same}
-use Rattle.pref_term.proofs.LeadingLaws.{same_joined}
+use Rattle.pref_term.proofs.LeadingLaws.{same_joined, three_say}
 use Rattle.pref_term.specs.OrderLaws.{group_back}
 use Rattle.pref_term.specs.Extension.{all_keys, ask_keys, group_keys}
 use Rattle.pref_term.proofs.SignatureLaws.{signed_by_keys}
@@ -23,18 +22,8 @@ use Rattle.pref_term.specs.Question.{over, twins}
 use Rattle.pref_term.specs.RelationLaws.{product-same}
 use Rattle.pref_term.specs.Signatures.{IsBy}
 use Rattle.pref_term.specs.TwinLaws.{twins_alike}
-use Rattle.pref_term.specs.Walk.{in_priority, in_product}
 use Rattle.pref_term.specs.declared.key.Key.{Key}
 use Rattle.pref_sky.specs.Chains.{earlier_in}
-
--- ---- three chains at most, of which those that are not there see no difference
-
-three_say : (chains : List (List Key)) (a b : List ℤ) → length chains ≤ 3
-    → (by_product chains a b ≡ in_product (by_chain (get_or chains 0 []) a b) (in_product (by_chain (get_or chains 1 []) a b) (by_chain (get_or chains 2 []) a b)))
-    × (by_chain (joined chains) a b ≡ in_priority (by_chain (get_or chains 0 []) a b) (in_priority (by_chain (get_or chains 1 []) a b) (by_chain (get_or chains 2 []) a b)))
-three_say (x ∷ (y ∷ (z ∷ []))) a b few = grind (arith, product_same, priority_same, chain-append)
-three_say (x ∷ (y ∷ (z ∷ (w ∷ others)))) a b few = absurd (omega (arith, few))
-three_say chains a b few = grind (arith, priority_same, chain-append)
 
 -- ---- chains that lead some entries
 

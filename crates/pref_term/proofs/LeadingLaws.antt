@@ -3,7 +3,7 @@ use Rattle.pref_term.proofs.Common.{◌≡◌, arith, ◌<◌, ℕ, zero, suc, g
 use Rattle.pref_term.proofs.Common.{All, All-append, All-nil, AreInRow, ReadsBelow, by_chain, is_chain, is_better, is_same, is_worse}
 use Rattle.pref_term.proofs.Common.{Preference, scored, pareto, prior, reverse, Question, IsAsk, in_priority, in_product, Key, Relation}
 use Rattle.std.proofs.lemmas.List.Elements.{All-map, All-weaker, All-pop, All-push}
-use Rattle.std.specs.Prelude.{Contains, Some}
+use Rattle.std.specs.Prelude.{◌≤◌, Contains, Some, filter}
 use Rattle.pref_term.specs.Extension.{all_keys}
 use Rattle.pref_term.specs.Keys.{IsNoGreater, leading}
 use Rattle.pref_term.specs.LeadingChains.{AreBoth, IsLedBy, Leads, by_product, each_behind, joined}
@@ -62,6 +62,24 @@ joined_behind_chain keys [] a b = chain-append keys [] a b
 joined_behind_chain keys (chain ∷ []) a b = grind (arith, chain-append, priority_same)
 joined_behind_chain keys (chain ∷ next ∷ chains) a b =
     grind (arith, chain-append (keys ++ chain) (joined (each_behind keys (next ∷ chains))) a b, chain-append keys chain a b, joined_behind_chain keys (next ∷ chains) a b, asked_again, chain-append chain (joined (next ∷ chains)) a b)
+
+module _ (keep : List Key → Bool) (a b : List ℤ) (none : (keys : List Key) → keep keys ≡ false → is_same (by_chain keys a b) ≡ true) where
+  -- chains in which two rows are the same add nothing to others
+  pub product_kept : (chains : List (List Key)) → by_product (filter keep chains) a b ≡ by_product chains a b
+  product_kept [] = refl
+  product_kept (x ∷ xs) = grind (arith, none x, product_kept xs)
+
+  pub joined_kept : (chains : List (List Key)) → by_chain (joined (filter keep chains)) a b ≡ by_chain (joined chains) a b
+  joined_kept [] = refl
+  joined_kept (x ∷ xs) = grind (arith, none x, joined_kept xs, chain-append x (joined xs) a b, chain-append x (joined (filter keep xs)) a b)
+
+-- of three chains at most those that are not there see no difference
+pub three_say : (chains : List (List Key)) (a b : List ℤ) → length chains ≤ 3
+    → (by_product chains a b ≡ in_product (by_chain (get_or chains 0 []) a b) (in_product (by_chain (get_or chains 1 []) a b) (by_chain (get_or chains 2 []) a b)))
+    × (by_chain (joined chains) a b ≡ in_priority (by_chain (get_or chains 0 []) a b) (in_priority (by_chain (get_or chains 1 []) a b) (by_chain (get_or chains 2 []) a b)))
+three_say (x ∷ (y ∷ (z ∷ []))) a b few = grind (arith, product_same, priority_same, chain-append)
+three_say (x ∷ (y ∷ (z ∷ (w ∷ others)))) a b few = absurd (omega (arith, few))
+three_say chains a b few = grind (arith, priority_same, chain-append)
 
 behind_in_row : (keys : List Key) (chains : List (List Key)) → AreInRow keys → All AreInRow chains → All AreInRow (each_behind keys chains)
 behind_in_row keys [] h k = All-push AreInRow [] keys k h
