@@ -38,6 +38,7 @@ impl OwnOrder {
     }
 
     /// Whether it is the question whose order this is, with this cut. Takes no memory.
+    #[tactic(auto, using(pref_term::specs::EqualLaws::questions_Decides))]
     pub(crate) fn is_of<D: Dominance>(&self, dominance: &D, cut: u32) -> bool
         ensures { result ≡ true → (D.order dominance.now ≡ order_of self.now.ask) × (self.now.cut ≡ cut) }
     {
