@@ -9,6 +9,7 @@ use pref_table::Row;
 use std::alloc::{AllocError, Global};
 
 /// The rows with ids that count on from the last one.
+#[tactic(auto, using(std::proofs::lemmas::Grind::common_steps, crate::proofs::NumberedLaws::numbered_more))]
 pub(crate) fn numbered_from(
     alloc: Global,
     last: u64,
@@ -30,6 +31,7 @@ pub(crate) fn numbered_from(
 /// [`Partial::add`](crate::Partial::add), which require that ids differ.
 ///
 /// Memory: the list, 136 bytes for each row. `Err` is out of memory.
+#[tactic(auto, using(crate::proofs::NumberedLaws::numbered_differ))]
 pub fn numbered(alloc: Global, rows: &[Row]) -> Result<Vec<Entry>, AllocError>
     ensures entries { IfOk result (λ entries. entries.items ≡ numbered rows.now) }
     ensures ids { IfOk result (λ entries. HaveDifferentIds entries.items) }

@@ -1,6 +1,0 @@
-use Rattle.pref_sky.proofs.Common.{arith}
-use Rattle.std.proofs.lemmas.Grind.{common_steps}
-use Rattle.pref_sky.proofs.entry.entries_of.Goals as goal
-
-pub loop-entry-preserved : goal.loop-entry-preserved
-loop-entry-preserved c = grind (arith, common_steps)
