@@ -26,11 +26,12 @@ fn choose(
     requires { All (λ column. column < 16) columns.now }
     ensures { IfOk result (λ chosen. chosen.items ≡ map (λ r. cond (nat_lt (count_before (in_same_group columns.now) ranked.now r) k) 1 0) ranked.now) }
 {
-    let placed = by_group(alloc, columns, ranked)?;
+    let grouped = by_group(alloc, columns, ranked)?;
+    let placed = grouped.as_slice();
     let mut chosen = vec![in alloc; 0_u32; ranked.len()]?;
     let mut front = InFront { group: 0, level: 0 };
     for (at, entry) in placed.iter().enumerate() {
-        front = in_front(columns, &placed, at, front);
+        front = in_front(columns, placed, at, front);
         chosen[entry.place] = u32::from(front.level - front.group < k);
     }
     Ok(chosen)
