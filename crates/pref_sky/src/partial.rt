@@ -60,8 +60,8 @@ impl Model for Partial {
     ghost invariant = { λ a. HaveDifferentIds (map entry_of (ranked_held a.held)) };
 }
 
-/// The entries held after the first addition: in the order of its keys where the order is a question's, and else with their levels.
-fn hold_first<D: Dominance>(
+/// Entries as they are held: in the order of a question's keys where the order is a question's, and else with their levels.
+fn hold<D: Dominance>(
     alloc: Global,
     dominance: &D,
     window: usize,
@@ -94,8 +94,9 @@ impl Held {
     }
 }
 
-/// The entries held after an addition by an order or a cut that does not go with those held before: these and the new ones are begun
-/// anew.
+/// The entries held after an addition by an order or a cut that does not go with those held before, or the first one: these and the
+/// new ones are begun anew.
+#[tactic(auto, using(crate::proofs::SortedLevels::merge, crate::proofs::LevelLaws::merge_none, crate::proofs::Merges::entry_order_is_strict))]
 fn hold_anew<D: Dominance>(
     alloc: Global,
     dominance: &D,
@@ -111,10 +112,13 @@ fn hold_anew<D: Dominance>(
         IfOk result (λ anew. (before : List Entry) → HaveDifferentIds (before ++ entries.now) → ranked_held held.now ≡ levels over before cut
         → ranked_held anew ≡ levels over (before ++ entries.now) cut) }
 {
+    if let Held::Nothing = held {
+        return hold(alloc, dominance, window, cut, entries);
+    }
     let ranked = held.ranked(alloc)?;
     let mut all = entries_of(alloc, &ranked)?;
     all.extend_from_slice(entries)?;
-    hold_first(alloc, dominance, window, cut, &all)
+    hold(alloc, dominance, window, cut, &all)
 }
 
 impl Partial {
@@ -173,23 +177,13 @@ impl Partial {
             → OnOk result (self.new ≡ levels over (before ++ entries.now) cut) }
         ensures err { OnErr result (self.new ≡ self.old) }
     {
-        match &mut self.held {
-            Held::Nothing => {
-                self.held = hold_first(alloc, dominance, window, cut, entries)?;
-                Ok(())
-            }
-            Held::Sorted(sorted) => {
-                if sorted.pruned.order.is_of(dominance, cut) {
-                    return sorted.add(alloc, entries);
-                }
-                self.held = hold_anew(alloc, dominance, window, cut, &self.held, entries)?;
-                Ok(())
-            }
-            Held::Leveled(_) => {
-                self.held = hold_anew(alloc, dominance, window, cut, &self.held, entries)?;
-                Ok(())
-            }
+        if let Held::Sorted(sorted) = &mut self.held
+            && sorted.pruned.order.is_of(dominance, cut)
+        {
+            return sorted.add(alloc, entries);
         }
+        self.held = hold_anew(alloc, dominance, window, cut, &self.held, entries)?;
+        Ok(())
     }
 }
 

@@ -1,7 +1,7 @@
 use Rattle.pref_sky.proofs.Common.{[], append-nil, arith, map, subst, sym, HaveDifferentIds, entry_of, entry_order, levels}
 use Rattle.pref_sky.proofs.LevelLaws.{held_differ}
 use Rattle.pref_sky.proofs.OwnOrders.{own_levels_are}
-use Rattle.pref_sky.proofs.partial.hold_first.Goals as goal
+use Rattle.pref_sky.proofs.partial.hold.Goals as goal
 
 -- the levels are by the question, whose order it is
 pub returns-in-Some-clause-levels : goal.returns-in-Some-clause-levels
