@@ -1,5 +1,5 @@
 -- The steps of passes, and what they keep true: no entry is lost that none dominates, and what is early at the end of a pass is best.
-use Rattle.pref_sky.proofs.Common.{◌≡◌, ℕ, ◌<◌, ◌+◌, Bool, true, false, not, inl, inr, refl, List, [], ◌∷◌, ◌++◌, length, filter, ap, arith, ◌⊎◌, length-append, nat_tests}
+use Rattle.pref_sky.proofs.Common.{◌≡◌, ℕ, ◌<◌, ◌+◌, Bool, true, false, not, inl, inr, refl, List, [], ◌∷◌, ◌++◌, length, filter, arith, ◌⊎◌, length-append, nat_tests}
 use Rattle.pref_sky.proofs.Common.{append-nil, nil_from_length, Among, Entry, IsClear, IsStrictOrder, IsThere, Passing, best, is_beaten}
 use Rattle.pref_sky.specs.Windows.{WindowState, joined, not_below, window_at_begin, window_entries, Offers}
 use Rattle.pref_sky.specs.declared.window.Offer.{Offer}
@@ -11,22 +11,15 @@ use Rattle.pref_sky.proofs.Merges.{unbeaten_over}
 unbeaten_by : {E : Type 0} (over : E → E → Bool) (xs : List E) (e x : E) → is_beaten over xs e ≡ false → Among x xs → over x e ≡ false
 unbeaten_by over xs e x none m = grind (arith, any_from (λ y. over y e) xs x m)
 
--- what is among a list with one more
-or_last : {E : Type 0} (xs : List E) (e x : E) → Among x (xs ++ e ∷ []) → Among x xs ⊎ (x ≡ e)
-or_last xs e x m = grind (arith, in_either xs (e ∷ []) x m)
-
-is_last : {E : Type 0} (xs : List E) (e : E) → Among e (xs ++ e ∷ [])
-is_last xs e = in_right xs (e ∷ []) e (inl refl)
-
 -- an entry joins the early ones where nothing overflowed so far, and else the late ones
 abbrev Joins : (early late overflow : List Entry) → Entry → (early_now late_now : List Entry) → Type 0
 Joins early late overflow e early_now late_now = ((early_now ≡ early ++ e ∷ []) × (late_now ≡ late) × (length overflow ≡ 0)) ⊎ ((early_now ≡ early) × (late_now ≡ late ++ e ∷ []) × (0 < length overflow))
 
 joins_from : (best early late overflow left : List Entry) (e : Entry) (early_now late_now : List Entry) → Joins early late overflow e early_now late_now → (x : Entry) → IsThere best early_now late_now overflow left x → IsThere best early late overflow (e ∷ left) x
-joins_from best early late overflow left e early_now late_now joins x there = grind (arith, or_last early e x, or_last late e x)
+joins_from best early late overflow left e early_now late_now joins x there = grind (arith, in_either early (e ∷ []) x, in_either late (e ∷ []) x)
 
 joins_to : (best early late overflow left : List Entry) (e : Entry) (early_now late_now : List Entry) → Joins early late overflow e early_now late_now → (x : Entry) → IsThere best early late overflow (e ∷ left) x → IsThere best early_now late_now overflow left x
-joins_to best early late overflow left e early_now late_now joins x there = grind (arith, in_left early (e ∷ []) x, in_left late (e ∷ []) x, is_last early e, is_last late e)
+joins_to best early late overflow left e early_now late_now joins x there = grind (arith, in_left early (e ∷ []) x, in_left late (e ∷ []) x, in_right early (e ∷ []) e, in_right late (e ∷ []) e)
 
 module _ {over : Entry → Entry → Bool} {all best : List Entry} {begun : ℕ} {window : WindowState} {overflow left : List Entry} {e : Entry} (p : Passing over all best begun window overflow (e ∷ left)) where
   offered_within : Among e all
@@ -43,33 +36,27 @@ module _ {over : Entry → Entry → Bool} {all best : List Entry} {begun : ℕ}
   pass_overflows : is_beaten over (window_entries window) e ≡ false → not_below over e (window_entries window) ≡ window_entries window → length (window_entries window) ≡ window.size
       → Passing over all best begun (record window { overflowed = true }) (overflow ++ e ∷ []) left
   pass_overflows unbeaten none_below full =
-      let above : (x : Entry) → Among x window.early → (over x e ≡ false) × (over e x ≡ false) = λ x m.
-      let there = in_left window.early window.late x m in (
-        unbeaten_by over (window_entries window) e x unbeaten there,
-        grind (arith, from_filter (λ w. not (over e w)) (window_entries window) x),
-      ) in
-      grind (arith, count_cons, count_append, length-append, or_last overflow e, is_last overflow e, in_left overflow (e ∷ []))
+      let above : IsClear over window.early e = λ x m.
+      grind (arith, in_left window.early window.late x m, unbeaten_by over (window_entries window) e x unbeaten, from_filter (λ w. not (over e w)) (window_entries window) x) in
+      grind (arith, count_cons, count_append, length-append, in_either overflow (e ∷ []), in_right overflow (e ∷ []) e, in_left overflow (e ∷ []))
 
   -- what it dominates goes out
   pass_sifted : Passing over all best begun (record { size = window.size; early = not_below over e window.early; late = not_below over e window.late; overflowed = window.overflowed }) overflow (e ∷ left)
   pass_sifted =
       let test : Entry → Bool = λ x. not (over e x) in
-      let shorter = filter_shorter test in
-      let stays : (xs : List Entry) (x : Entry) → Among x xs → is_beaten over all x ≡ false → Among x (filter test xs) = λ xs x m none. in_filter test xs x m (ap not (unbeaten_by over all x e none offered_within)) in
-      let was : (xs : List Entry) (x : Entry) → Among x (filter test xs) → Among x xs = λ xs x m. (from_filter test xs x m).0 in
-      grind (arith, was, stays, shorter, count_filter)
+      grind (arith, from_filter test, in_filter test, unbeaten_by over all, filter_shorter test, count_filter)
 
   -- it joins the window, of which it is clear
   pass_joins : {early late : List Entry} → IsStrictOrder over → IsClear over window.early e → IsClear over window.late e → Joins window.early window.late overflow e early late
       → Passing over all best begun (record { size = window.size; early = early; late = late; overflowed = window.overflowed }) overflow left
   pass_joins {early = early} {late = late} strict early_clear late_clear joins =
       let IsHeld : Entry → Type 0 = λ x. Among x best ⊎ (Among x window.early ⊎ Among x window.late) in
-      let was : (x : Entry) → Among x best ⊎ (Among x early ⊎ Among x late) → IsHeld x ⊎ (x ≡ e) = λ x m. grind (arith, or_last window.early e x, or_last window.late e x) in
+      let was : (x : Entry) → Among x best ⊎ (Among x early ⊎ Among x late) → IsHeld x ⊎ (x ≡ e) = λ x m. grind (arith, in_either window.early (e ∷ []) x, in_either window.late (e ∷ []) x) in
       let clear : (x : Entry) → IsHeld x → (over x e ≡ false) × (over e x ≡ false) = λ x m.
       grind (arith, p.met x, early_clear x, late_clear x) in
       let apart : (x y : Entry) → Among x best ⊎ (Among x early ⊎ Among x late) → Among y best ⊎ (Among y early ⊎ Among y late) → over x y ≡ false = λ x y mx my.
       grind (arith, was x mx, was y my, clear x, clear y, p.apart x y, strict.irreflexive e) in
-      grind (arith, apart, count_append, count_cons, length-append window.early (e ∷ []), length-append window.late (e ∷ []), or_last window.early e, joins_from best window.early window.late overflow left e early late joins, joins_to best window.early window.late overflow left e early late joins, nil_from_length overflow)
+      grind (arith, apart, count_append, count_cons, length-append window.early (e ∷ []), length-append window.late (e ∷ []), in_either window.early (e ∷ []), joins_from best window.early window.late overflow left e early late joins, joins_to best window.early window.late overflow left e early late joins, nil_from_length overflow)
 
 module _ {over : Entry → Entry → Bool} {all best : List Entry} {begun : ℕ} {window : WindowState} {overflow left : List Entry} {e : Entry} (p : Passing over all best begun window overflow (e ∷ left)) (strict : IsStrictOrder over) where
   -- nothing held dominates it: it takes the place of what it dominates
@@ -105,8 +92,8 @@ pub pass_falls : {over : Entry → Entry → Bool} {all top : List Entry} {begun
 pass_falls p some = grind (arith)
 
 -- all passes end: the best are found
-pub passes_end : {over : Entry → Entry → Bool} {all top : List Entry} {begun : ℕ} {window : WindowState} → IsStrictOrder over → length window.early ≡ 0 → length window.late ≡ 0 → Passing over all top begun window [] [] → SameMembers top (best over all)
-passes_end {over = over} {all = all} {top = top} {window = window} strict early_none late_none p =
-    let found : (x : Entry) → Among x all → is_beaten over all x ≡ false → Among x top = λ x m none. grind (arith, p.kept x m none, nil_from_length window.early early_none, nil_from_length window.late late_none) in
+pub passes_end : {over : Entry → Entry → Bool} {all top : List Entry} {begun : ℕ} {window : WindowState} → IsStrictOrder over → length window.early ≡ 0 → Passing over all top begun window [] [] → SameMembers top (best over all)
+passes_end {over = over} {all = all} {top = top} {window = window} strict early_none p =
+    let found : (x : Entry) → Among x all → is_beaten over all x ≡ false → Among x top = λ x m none. grind (arith, p.kept x m none, nil_from_length window.early early_none, nil_from_length window.late (p.fresh refl)) in
     let unbeaten : (x : Entry) → Among x top → is_beaten over all x ≡ false = λ x m. grind (arith, unbeaten_over over strict (λ _. true) all x, found, p.apart) in
     grind (arith, in_filter, from_filter)

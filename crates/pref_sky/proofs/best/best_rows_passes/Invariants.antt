@@ -1,12 +1,10 @@
 use Rattle.pref_sky.proofs.Common.{◌≡◌, ◌≤◌, ◌+◌, [], length, entry_order, Passing}
-use Rattle.pref_sky.specs.Windows.{window_at_begin}
 use Rattle.pref_sky.proofs.best.best_rows_passes.Given as goal
 
 abbrev pub invariant-each_pass : goal.invariant-each_pass
 invariant-each_pass g l =
     record {
       passing : Passing (entry_order (g.D.Dominance.order l.dominance)) l.entries l.best.items (length l.held.early + length l.input.items) l.held [] l.input.items;
-      begins : l.held ≡ window_at_begin l.held.size l.held.early;
       ends : length l.input.items ≡ 0 → length l.held.early ≡ 0;
       count : l.passes + (length l.held.early + length l.input.items) ≤ length l.entries;
       first : l.passes ≡ 0 → length l.input.items ≡ length l.entries;
