@@ -90,6 +90,7 @@ impl Window {
     /// and it joins, or overflows where nothing went out of a full window.
     ///
     /// Takes no memory. At most two comparisons for each held entry.
+    #[tactic(auto, using(std::proofs::lemmas::Grind::common_steps))]
     pub fn offer<D: Dominance>(&mut self, dominance: &D, entry: Entry) -> Offer
         ensures outcome { Offers (entry_order (D.order dominance.now)) self.old entry result self.new }
         ensures as_before { (result ≡ Offer.Joined) ⊎ (window_entries self.new ≡ window_entries self.old) }

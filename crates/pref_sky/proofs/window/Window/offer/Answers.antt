@@ -1,4 +1,4 @@
-use Rattle.pref_sky.proofs.Common.{Bool, List, Entry, ◌≤◌, refl, append-nil}
+use Rattle.pref_sky.proofs.Common.{Bool, List, Entry, ◌≤◌, refl}
 use Rattle.pref_sky.proofs.Common.{◌≡◌, inr, not, [], ◌∷◌, filter, length, ap, arith, length-append, filter-append, entry_order}
 use Rattle.pref_sky.specs.Windows.{window_entries}
 use Rattle.std.proofs.lemmas.List.Folds.{list_any-append}
@@ -15,12 +15,6 @@ pub returns-then-len-self-clause-outcome : goal.returns-then-len-self-clause-out
 returns-then-len-self-clause-outcome g c =
     let left : Entry → Bool = λ x. not (entry_order (g.D.Dominance.order c.args.dominance.now) c.args.entry x) in
     grind (arith, filter_whole left c.self.inside.early.items, filter_whole left c.self.inside.late.items, filter_shorter left, filter-append, length-append, list_any-append)
-
-pub returns-then-self-clause-outcome : goal.returns-then-self-clause-outcome
-returns-then-self-clause-outcome g c = grind (arith, list_any-append, append-nil)
-
-pub returns-else-self-clause-outcome : goal.returns-else-self-clause-outcome
-returns-else-self-clause-outcome g c = grind (arith, list_any-append, append-nil)
 
 pub returns-then-len-self-clause-as_before : goal.returns-then-len-self-clause-as_before
 returns-then-len-self-clause-as_before g c = inr (ap window_entries (returns-then-len-self-clause-outcome g c).3)
