@@ -1,6 +1,6 @@
 -- The steps of passes, and what they keep true: no entry is lost that none dominates, and what is early at the end of a pass is best.
-use Rattle.pref_sky.proofs.Common.{◌≡◌, ℕ, ◌<◌, ◌+◌, Bool, true, false, not, inl, inr, refl, List, [], ◌∷◌, ◌++◌, length, filter, arith, ◌⊎◌, length-append, nat_tests}
-use Rattle.pref_sky.proofs.Common.{append-nil, nil_from_length, Among, Entry, IsClear, IsStrictOrder, IsThere, Passing, best, is_beaten}
+use Rattle.pref_sky.proofs.Common.{◌≡◌, ℕ, ◌<◌, ◌+◌, Bool, true, false, not, cond, subst, sym, inl, inr, refl, List, [], ◌∷◌, ◌++◌, length, filter, arith, ◌⊎◌, length-append, nat_tests}
+use Rattle.pref_sky.proofs.Common.{nil_from_length, Among, Entry, IsClear, IsStrictOrder, IsThere, Passing, best, is_beaten}
 use Rattle.pref_sky.specs.Windows.{WindowState, joined, not_below, window_at_begin, window_entries, Offers}
 use Rattle.pref_sky.specs.declared.window.Offer.{Offer}
 use Rattle.pref_sky.specs.declared.window.Offer.TheVariants.{Dropped, Joined, Overflow}
@@ -11,20 +11,7 @@ use Rattle.pref_sky.proofs.Merges.{unbeaten_over}
 unbeaten_by : {E : Type 0} (over : E → E → Bool) (xs : List E) (e x : E) → is_beaten over xs e ≡ false → Among x xs → over x e ≡ false
 unbeaten_by over xs e x none m = grind (arith, any_from (λ y. over y e) xs x m)
 
--- an entry joins the early ones where nothing overflowed so far, and else the late ones
-abbrev Joins : (early late overflow : List Entry) → Entry → (early_now late_now : List Entry) → Type 0
-Joins early late overflow e early_now late_now = ((early_now ≡ early ++ e ∷ []) × (late_now ≡ late) × (length overflow ≡ 0)) ⊎ ((early_now ≡ early) × (late_now ≡ late ++ e ∷ []) × (0 < length overflow))
-
-joins_from : (best early late overflow left : List Entry) (e : Entry) (early_now late_now : List Entry) → Joins early late overflow e early_now late_now → (x : Entry) → IsThere best early_now late_now overflow left x → IsThere best early late overflow (e ∷ left) x
-joins_from best early late overflow left e early_now late_now joins x there = grind (arith, in_either early (e ∷ []) x, in_either late (e ∷ []) x)
-
-joins_to : (best early late overflow left : List Entry) (e : Entry) (early_now late_now : List Entry) → Joins early late overflow e early_now late_now → (x : Entry) → IsThere best early late overflow (e ∷ left) x → IsThere best early_now late_now overflow left x
-joins_to best early late overflow left e early_now late_now joins x there = grind (arith, in_left early (e ∷ []) x, in_left late (e ∷ []) x, in_right early (e ∷ []) e, in_right late (e ∷ []) e)
-
-module _ {over : Entry → Entry → Bool} {all best : List Entry} {begun : ℕ} {window : WindowState} {overflow left : List Entry} {e : Entry} (p : Passing over all best begun window overflow (e ∷ left)) where
-  offered_within : Among e all
-  offered_within = p.within e (inr (inr (inr (inr (inl refl)))))
-
+module _ {over : Entry → Entry → Bool} {all best : List Entry} {begun : ℕ} {window : WindowState} {overflow left : List Entry} {e : Entry} (p : Passing over all best begun window overflow (e ∷ left)) (strict : IsStrictOrder over) where
   -- one of the window dominates the next entry
   pass_dropped : is_beaten over (window_entries window) e ≡ true → Passing over all best begun window overflow left
   pass_dropped beaten =
@@ -40,43 +27,40 @@ module _ {over : Entry → Entry → Bool} {all best : List Entry} {begun : ℕ}
       grind (arith, in_left window.early window.late x m, unbeaten_by over (window_entries window) e x unbeaten, from_filter (λ w. not (over e w)) (window_entries window) x) in
       grind (arith, count_cons, count_append, length-append, in_either overflow (e ∷ []), in_right overflow (e ∷ []) e, in_left overflow (e ∷ []))
 
-  -- what it dominates goes out
-  pass_sifted : Passing over all best begun (record { size = window.size; early = not_below over e window.early; late = not_below over e window.late; overflowed = window.overflowed }) overflow (e ∷ left)
-  pass_sifted =
-      let test : Entry → Bool = λ x. not (over e x) in
-      grind (arith, from_filter test, in_filter test, unbeaten_by over all, filter_shorter test, count_filter)
-
-  -- it joins the window, of which it is clear
-  pass_joins : {early late : List Entry} → IsStrictOrder over → IsClear over window.early e → IsClear over window.late e → Joins window.early window.late overflow e early late
-      → Passing over all best begun (record { size = window.size; early = early; late = late; overflowed = window.overflowed }) overflow left
-  pass_joins {early = early} {late = late} strict early_clear late_clear joins =
-      let IsHeld : Entry → Type 0 = λ x. Among x best ⊎ (Among x window.early ⊎ Among x window.late) in
-      let was : (x : Entry) → Among x best ⊎ (Among x early ⊎ Among x late) → IsHeld x ⊎ (x ≡ e) = λ x m. grind (arith, in_either window.early (e ∷ []) x, in_either window.late (e ∷ []) x) in
-      let clear : (x : Entry) → IsHeld x → (over x e ≡ false) × (over e x ≡ false) = λ x m.
-      grind (arith, p.met x, early_clear x, late_clear x) in
-      let apart : (x y : Entry) → Among x best ⊎ (Among x early ⊎ Among x late) → Among y best ⊎ (Among y early ⊎ Among y late) → over x y ≡ false = λ x y mx my.
-      grind (arith, was x mx, was y my, clear x, clear y, p.apart x y, strict.irreflexive e) in
-      grind (arith, apart, count_append, count_cons, length-append window.early (e ∷ []), length-append window.late (e ∷ []), in_either window.early (e ∷ []), joins_from best window.early window.late overflow left e early late joins, joins_to best window.early window.late overflow left e early late joins, nil_from_length overflow)
-
-module _ {over : Entry → Entry → Bool} {all best : List Entry} {begun : ℕ} {window : WindowState} {overflow left : List Entry} {e : Entry} (p : Passing over all best begun window overflow (e ∷ left)) (strict : IsStrictOrder over) where
   -- nothing held dominates it: it takes the place of what it dominates
   pass_joined : is_beaten over (window_entries window) e ≡ false → Passing over all best begun (joined over window e) overflow left
   pass_joined unbeaten =
       let test : Entry → Bool = λ x. not (over e x) in
       let early : List Entry = filter test window.early in
       let late : List Entry = filter test window.late in
-      let clear : (xs : List Entry) → ((x : Entry) → Among x xs → Among x (window_entries window)) → IsClear over (filter test xs) e = λ xs within x m.
-      grind (arith, from_filter test xs x m, within x, unbeaten_by over (window_entries window) e x unbeaten) in
-      let joins : Joins early late overflow e (joined over window e).early (joined over window e).late = grind (arith, nat_tests, p.overflowed, append-nil early, append-nil late) in
-      pass_joins (pass_sifted p) strict (clear window.early (in_left window.early window.late)) (clear window.late (in_right window.early window.late)) joins
+      let first : List Entry = cond window.overflowed [] (e ∷ []) in
+      let last : List Entry = cond window.overflowed (e ∷ []) [] in
+      let was : (x : Entry) → Among x best ⊎ (Among x (early ++ first) ⊎ Among x (late ++ last)) → (Among x best ⊎ (Among x early ⊎ Among x late)) ⊎ (x ≡ e) = λ x m.
+      grind (arith, in_either early first x, in_either late last x) in
+      let clear : (x : Entry) → Among x best ⊎ (Among x early ⊎ Among x late) → (over x e ≡ false) × (over e x ≡ false) × (Among x best ⊎ (Among x window.early ⊎ Among x window.late)) = λ x m.
+      grind (arith, p.met x, from_filter test window.early x, from_filter test window.late x, in_left window.early window.late x, in_right window.early window.late x, unbeaten_by over (window_entries window) e x unbeaten) in
+      let none : (x : Entry) → length overflow ≡ 0 → IsClear over overflow x = λ x empty. subst (λ l. IsClear over l x) (sym (nil_from_length overflow empty)) (λ y m. absurd m) in
+      record {
+        counts = λ q. grind (arith, p.counts q, count_append q early first, count_append q late last, count_filter q test window.early, count_filter q test window.late, count_cons q e left, count_cons q e []);
+        within = λ x there. grind (arith, was x, clear x);
+        kept = λ x m unbeat. grind (arith, in_left early first x, in_left late last x, in_right early first e, in_right late last e, p.kept x m unbeat, unbeaten_by over all x e unbeat, in_filter test window.early x, in_filter test window.late x);
+        apart = λ x y mx my. grind (arith, was x mx, was y my, clear x, clear y, p.apart x y, strict.irreflexive e);
+        settled = λ x m. grind (arith, nat_tests, p.overflowed, none x, in_either early first x, from_filter test window.early x, p.settled x);
+        met = λ x m. grind (arith, p.met x m);
+        overflowed = p.overflowed;
+        fresh = grind (arith, nat_tests, length-append, p.overflowed, p.fresh, filter_shorter test window.late);
+        room = p.room;
+        fits = grind (arith, length-append, filter_shorter test window.early, filter_shorter test window.late);
+        falls = grind (arith, nat_tests, length-append, filter_shorter test window.late, p.overflowed, p.falls);
+      }
 
   -- the window drops the next entry, or takes it in
   pub pass_stays : {new : WindowState} (offer : Offer) → (offer ≡ Joined) ⊎ (offer ≡ Dropped) → Offers over window e offer new → Passing over all best begun new overflow left
-  pass_stays offer is offered = grind (arith, pass_joined, pass_dropped p)
+  pass_stays offer is offered = grind (arith, pass_joined, pass_dropped)
 
   -- or it overflows
   pub pass_more : {new : WindowState} (offer : Offer) → offer ≡ Overflow → Offers over window e offer new → Passing over all best begun new (overflow ++ e ∷ []) left
-  pass_more offer is offered = grind (arith, pass_overflows p)
+  pass_more offer is offered = grind (arith, pass_overflows)
 
 -- what is there at the end of a pass
 moves_on : (top early late overflow : List Entry) (x : Entry) → IsThere top early late overflow [] x → IsThere (top ++ early) late [] [] overflow x
