@@ -1,12 +1,9 @@
 -- Levels found one after the other, each from what the levels before leave: the entries that one of the best dominates.
-use Rattle.pref_sky.proofs.Common.{◌≡◌, ℕ, ◌≤◌, Bool, true, not, List, [], sym, ap, arith, filter, filter_agree, append-nil, subst, IsStrictOrder}
-use Rattle.pref_sky.proofs.Common.{Entry, Ranked, HaveDifferentIds, best, is_beaten, rest, without_best, in_order_of_id, levels}
+use Rattle.pref_sky.proofs.Common.{◌≡◌, ℕ, ◌≤◌, Bool, true, not, List, [], sym, ap, arith, filter, filter_agree, append-nil, IsStrictOrder}
+use Rattle.pref_sky.proofs.Common.{Entry, Ranked, best, is_beaten, rest, without_best, in_order_of_id, levels}
 use Rattle.pref_sky.proofs.IdOrder.{among_in_order, from_in_order}
 use Rattle.pref_sky.proofs.ListLaws.{any_from, any_gives, from_filter, in_filter, same_answer, settled}
-use Rattle.pref_sky.proofs.Merges.{comes_after, different_filter, rest_is, unbeaten_over}
-
-pub rest_differ : (over : Entry → Entry → Bool) (all : List Entry) (n : ℕ) → HaveDifferentIds all → HaveDifferentIds (rest over all n)
-rest_differ over all n different = subst HaveDifferentIds (sym (rest_is over all n)) (different_filter (comes_after over all n) all different)
+use Rattle.pref_sky.proofs.Merges.{unbeaten_over}
 
 -- what an entry of a list dominates, one of the best dominates
 pub without_these : (over : Entry → Entry → Bool) → IsStrictOrder over → (xs : List Entry) → filter (is_beaten over (in_order_of_id (best over xs))) xs ≡ without_best over xs
