@@ -1,4 +1,4 @@
-use Rattle.pref_sky.proofs.Common.{[], append-nil, arith, map, subst, sym, HaveDifferentIds, entry_of, entry_order, levels}
+use Rattle.pref_sky.proofs.Common.{[], append-nil, arith, map, entry_of, entry_order, levels}
 use Rattle.pref_sky.proofs.LevelLaws.{held_differ}
 use Rattle.pref_sky.proofs.OwnOrders.{own_levels_are}
 use Rattle.pref_sky.proofs.partial.hold.Goals as goal
@@ -13,5 +13,4 @@ pub returns-clause-ids : goal.returns-clause-ids
 returns-clause-ids g c =
     let over = entry_order (g.D.Dominance.order c.args.dominance.now) in
     let entries = c.args.entries.now in
-    subst (λ (l : _). HaveDifferentIds (map entry_of l)) (sym (c.in_ok-ranked.ensures {u = tt}))
-    (subst HaveDifferentIds (append-nil (map entry_of (levels over entries c.args.cut))) (held_differ over entries [] c.args.cut (subst HaveDifferentIds (sym (append-nil entries)) c.requires.ids)))
+    grind (arith, held_differ over entries [] c.args.cut, append-nil entries, append-nil (map entry_of (levels over entries c.args.cut)), c.in_ok-ranked.ensures {u = tt})
