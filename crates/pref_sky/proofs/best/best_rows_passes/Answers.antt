@@ -1,7 +1,7 @@
 use Rattle.pref_sky.proofs.Common.{rules, ◌≡◌, ◌==◌, ◌+◌, ◌<◌, [], length, sym, ◌∙◌, ap, subst, arith, eqb-false, eqb-true, nil_from_length, vec_len, IsNonDecreasingBy-from_sort_by_key}
-use Rattle.pref_sky.proofs.Common.{Entry, HaveDifferentIds, Passing, best, entry_order}
+use Rattle.pref_sky.proofs.Common.{Entry, HaveDifferentIds, Passing, best, entry_order, is_beaten, not}
 use Rattle.pref_sky.proofs.IdOrder.{same_in_order, sorted_is}
-use Rattle.pref_sky.proofs.Merges.{different_best, entry_order_is_strict}
+use Rattle.pref_sky.proofs.Merges.{different_filter, entry_order_is_strict}
 use Rattle.pref_sky.proofs.PassesLaws.{pass_ends, pass_falls, passes_end}
 use Rattle.pref_sky.proofs.best.best_rows_passes.Given.{Over}
 use Rattle.pref_sky.proofs.best.best_rows_passes.Goals.{In_ok-end_pass}
@@ -38,4 +38,4 @@ returns-clause-best g c =
     let found = passes_end (entry_order_is_strict order (g.met.D.Dominance.laws c.args.dominance.now)) (inv.ends (ap length none)) ended in
     let differ : HaveDifferentIds top = record { once = λ id. omega (arith, ended.counts (λ (e : Entry). e.id == id), c.requires.ids.once id) } in
     let sorted = IsNonDecreasingBy-from_sort_by_key (λ (e : Entry). e.id) _ c.sort_unstable_by_key.ensures.sorted (λ a r q k. search rules) in
-    sorted_is top _ c.sort_unstable_by_key.ensures.permutation sorted differ ∙ same_in_order top (best over all) differ (different_best over all 0 c.requires.ids) found
+    sorted_is top _ c.sort_unstable_by_key.ensures.permutation sorted differ ∙ same_in_order top (best over all) differ (different_filter (λ e. not (is_beaten over all e)) all c.requires.ids) found
