@@ -1,7 +1,7 @@
 //! Entries of a question: they are kept in the order of its keys, and their levels are found when they are asked for, and when many came,
 //! to drop those below the cut.
 
-ghost use Rattle.std.specs.Prelude.{◌≡◌, ◌<◌, ◌++◌, true, List, All, get_or, length, map, vec_len, IfOk, IfSome, OnErr, OnOk};
+ghost use Rattle.std.specs.Prelude.{◌≡◌, ◌<◌, ◌++◌, true, List, All, get_or, length, map, IfOk, IfSome, OnErr, OnOk};
 ghost use Rattle.pref_sky.specs.OwnOrders.{AreLeveled, AreLowest, HoldsUpper, is_below, level_of, own_levels, own_order};
 ghost use Rattle.pref_sky.specs.Levels.{HaveDifferentIds, entry_of};
 ghost use Rattle.pref_sky.specs.declared.entry.Entry.{Entry};
@@ -106,8 +106,7 @@ impl Pruned {
     /// Whether the one of the last level that stands somewhere among these dominates an entry.
     #[inline(always)]
     fn dominates(&self, which: usize, entry: &Entry) -> bool
-        ensures within { result ≡ true → which < vec_len self.now.lowest }
-        ensures below { result ≡ true → is_below self.now.order self.now.entries.items entry.now ≡ true }
+        ensures { result ≡ true → is_below self.now.order self.now.entries.items entry.now ≡ true }
     {
         which < self.lowest.len()
             && self
@@ -117,7 +116,7 @@ impl Pruned {
 
     /// The first of the last level, from one on, that dominates an entry of its group, as signatures leave it open.
     fn first_over(&self, begin: usize, entry: &Entry) -> Option<usize>
-        ensures { IfSome result (λ which. (which < vec_len self.now.lowest) × (is_below self.now.order self.now.entries.items entry.now ≡ true)) }
+        ensures { IfSome result (λ _. is_below self.now.order self.now.entries.items entry.now ≡ true) }
     {
         let signature = self.scales.signature(&entry.row);
         for which in begin..self.lowest.len() {
@@ -137,15 +136,11 @@ impl Pruned {
 
     /// One of the last level that dominates an entry; `None` where none is found.
     fn find_over(&self, entry: &Entry) -> Option<usize>
-        ensures { IfSome result (λ which. (which < vec_len self.now.lowest) × (is_below self.now.order self.now.entries.items entry.now ≡ true)) }
+        ensures { IfSome result (λ _. is_below self.now.order self.now.entries.items entry.now ≡ true) }
     {
         if self.scales.is_none() {
             let which = self.candidate(entry);
-            return if self.dominates(which, entry) {
-                Some(which)
-            } else {
-                None
-            };
+            return self.dominates(which, entry).then_some(which);
         }
         self.first_over(self.group_begin(entry), entry)
     }
