@@ -226,7 +226,7 @@ impl Pruned {
     fn prune(&mut self, alloc: Global, recent: &mut Vec<Entry>) -> Result<(), AllocError>
         requires { HaveDifferentIds (map entry_of (own_levels self.old.order (self.old.entries.items ++ recent.old.items))) }
         ensures order { self.new.order ≡ self.old.order }
-        ensures levels { own_levels self.old.order (self.new.entries.items ++ recent.new.items) ≡ own_levels self.old.order (self.old.entries.items ++ recent.old.items) }
+        ensures levels { own_levels self.new.order (self.new.entries.items ++ recent.new.items) ≡ own_levels self.old.order (self.old.entries.items ++ recent.old.items) }
     {
         if !self.is_outgrown(recent.len()) {
             return Ok(());
