@@ -8,7 +8,7 @@ use crate::entry::{Entry, Ranked};
 use crate::merging::{Marked, mark};
 use std::alloc::{AllocError, Global};
 
-/// Drops each element whose level is 0. Those in front of the first one stay where they are. Takes no memory, and gives none back.
+/// Drops each element whose level is 0. Takes no memory, and gives none back.
 pub(crate) fn drop_below<T: Copy>(elements: &mut Vec<T>, levels: &[u32])
     ensures { (level : T → ℕ) → levels.now ≡ map level elements.old.items → elements.new.items ≡ filter (λ x. nat_lt 0 (level x)) elements.old.items }
 {
@@ -16,9 +16,7 @@ pub(crate) fn drop_below<T: Copy>(elements: &mut Vec<T>, levels: &[u32])
     for place in 0..elements.len().min(levels.len()) {
         let level = levels[place];
         if level > 0 {
-            if count < place {
-                elements[count] = elements[place];
-            }
+            elements[count] = elements[place];
             count += 1;
         }
     }
