@@ -19,18 +19,13 @@ const JUDGED: usize = 64;
 const SELDOM: usize = 8;
 
 /// Tries of one kind: how many were made, and how many of them found something.
-#[derive(Clone, Copy)]
+#[derive(Clone, Copy, Default)]
 pub(crate) struct Tries {
     made: usize,
     found: usize,
 }
 
 impl Tries {
-    /// None yet.
-    fn none() -> Tries {
-        Tries { made: 0, found: 0 }
-    }
-
     /// Whether more are to be made.
     pub(crate) fn are_worthwhile(&self) -> bool {
         self.made < JUDGED || self.found >= self.made / SELDOM
@@ -60,8 +55,8 @@ impl Lately {
         let slots = if groups.is_empty() { 1 } else { SLOTS };
         Ok(Lately {
             which: vec![in alloc; 0_usize; slots]?,
-            looks: Tries::none(),
-            searches: Tries::none(),
+            looks: Tries::default(),
+            searches: Tries::default(),
         })
     }
 
@@ -80,11 +75,7 @@ impl Lately {
     /// The one that is asked first for a slot.
     #[inline(always)]
     pub(crate) fn at(&self, slot: usize) -> usize {
-        if slot < self.which.len() {
-            self.which[slot]
-        } else {
-            0
-        }
+        self.which.get(slot).copied().unwrap_or(0)
     }
 
     /// Notes what a search for a slot found.
@@ -99,7 +90,7 @@ impl Lately {
 
     /// Begins anew, since another last level was found.
     pub(crate) fn begin(&mut self) {
-        self.looks = Tries::none();
-        self.searches = Tries::none();
+        self.looks = Tries::default();
+        self.searches = Tries::default();
     }
 }
