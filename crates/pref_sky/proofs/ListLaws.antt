@@ -111,9 +111,6 @@ same_if_permuted xs ys moved =
       back = λ x m. let w = Contains-permutation ys xs x (IsPermutation-sym xs ys moved) (place_of ys x x m) in subst (λ y. Among y xs) w.2 (among_place xs w.0 x w.1);
     }
 
-pub same_behind : {E : Type 0} (xs ys zs : List E) → SameMembers ys zs → SameMembers (xs ++ ys) (xs ++ zs)
-same_behind xs ys zs same = grind (arith, in_either xs ys, in_left xs zs, in_right xs zs, in_either xs zs, in_left xs ys, in_right xs ys)
-
 -- where each that passes p passes q, no more pass p
 pub count_within : {E : Type 0} (p q : E → Bool) (xs : List E) → ((x : E) → p x ≡ true → q x ≡ true) → count_by p xs ≤ count_by q xs
 count_within p q xs within = sum_by-le-sum_by (λ x. cond (p x) 1 0) (λ x. cond (q x) 1 0) xs (λ x. grind (arith, within x))
