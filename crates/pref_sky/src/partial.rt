@@ -61,6 +61,7 @@ impl Model for Partial {
 }
 
 /// Entries as they are held: in the order of a question's keys where the order is a question's, and else with their levels.
+#[tactic(auto, using(crate::proofs::OwnOrders::own_levels_are))]
 fn hold<D: Dominance>(
     alloc: Global,
     dominance: &D,
@@ -160,6 +161,7 @@ impl Partial {
     /// An addition by another question or cut than the first one begins anew with what is held, at the cost of a copy.
     ///
     /// `Err` is out of memory; the partial result is then as it was.
+    #[tactic(auto, using(crate::proofs::OwnOrders::own_levels_are))]
     pub fn add<D: Dominance>(
         &mut self,
         alloc: Global,

@@ -1,12 +1,6 @@
 use Rattle.pref_sky.proofs.Common.{[], append-nil, arith, map, entry_of, entry_order, levels}
 use Rattle.pref_sky.proofs.LevelLaws.{held_differ}
-use Rattle.pref_sky.proofs.OwnOrders.{own_levels_are}
 use Rattle.pref_sky.proofs.partial.hold.Goals as goal
-
--- the levels are by the question, whose order it is
-pub returns-in-Some-clause-levels : goal.returns-in-Some-clause-levels
-returns-in-Some-clause-levels g c =
-    grind (arith, own_levels_are (g.D.Dominance.order c.args.dominance.now) c.in-Some.order c.args.cut)
 
 -- levels have different ids where all entries have
 pub returns-clause-ids : goal.returns-clause-ids
