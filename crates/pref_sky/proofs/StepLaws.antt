@@ -1,10 +1,10 @@
 -- What is kept of a level in a sweep: its steps and its run tell whether an entry of the level dominates the next entry, and how they stand for one entry more.
 use Rattle.pref_sky.proofs.Common.{◌≡◌, ℕ, suc, zero, ◌<◌, ◌≤◌, ◌+◌, ◌-◌, Bool, true, false, not, ◌&&◌, ◌⊎◌, inl, inr, List, [], ◌∷◌, ◌++◌, refl, sym, ◌∙◌, ap, arith, filter, length, get_or, take, drop}
-use Rattle.pref_sky.proofs.Common.{both_ways, and_from, and_right, cases_Bool, or_cases, cases_eq, false_from_ne_true, Entry, entry_at, Item, Among, StandAlike, IsChain, IsInOrder}
+use Rattle.pref_sky.proofs.Common.{Global, Vec, both_ways, and_from, and_right, cases_Bool, or_cases, cases_eq, false_from_ne_true, Entry, entry_at, Item, Among, StandAlike, IsChain, IsInOrder}
 use Rattle.pref_sky.proofs.ChainLaws.{level_above, level_below}
 use Rattle.pref_sky.proofs.ListLaws.{among_place, any_from, from_filter, in_filter, in_order_at, in_order_joined, place_of, in_either, in_left, in_right}
 use Rattle.pref_sky.proofs.Merges.{comes_after, unbeaten_over}
-use Rattle.pref_sky.specs.Sweep.{AreSwept, IsAskedOf, IsClass, IsKept, IsMember, IsOfClass, HasAlike, IsOneMore, IsSameLevel, StandsFor, are_level_in, is_ahead, is_at}
+use Rattle.pref_sky.specs.Sweep.{AreSwept, IsAskedOf, IsClass, IsKept, IsMember, HasAlike, IsOneMore, IsSameLevel, StandsFor, are_level_in, is_ahead, is_at}
 use Rattle.pref_sky.specs.Held.{AreHeld}
 use Rattle.pref_sky.specs.Steps.{AreNoWorse, IsAsked, IsCovered, IsStepPut, covers, stands_before, step_at}
 use Rattle.pref_sky.specs.declared.level.Level.{Level}
@@ -105,32 +105,9 @@ module _ (over second third : Entry → Entry → Bool) (rule : Entry → ℕ) (
         covered (λ _. (w.0, w.1, covers_then second third second_is_chain third_is_chain (entry_at all w.0) m e w.2 (grind (arith, level))))
         (λ _ _. (x.0, (x.1.0, x.1.1, record { above = λ c. x.1.2.above c ∙ alike.above c; below = λ c. x.1.2.below c ∙ alike.below c })))
 
--- ---- one more is kept in the class
-
-module _ (mark : ℕ → ℕ) (n : ℕ) (before : Level) (x : Item) (new : Level) (more : IsOneMore mark n before x new) where
-  was_there : (y : Item) → IsKept y new → IsKept y before ⊎ (y ≡ x)
-  was_there y =
-      elim more.pushed [
-        | inl run ↦ rw (run.0, run.1) (grind (arith, in_either before.run.items (x ∷ []) y))
-        | inr fresh ↦ rw (fresh.0, fresh.1) (grind (arith, in_either before.fresh.items (x ∷ []) y))
-      ]
-
-  was_held : (y : Item) → Among y new.run.items → Among y before.run.items ⊎ (mark y.place ≡ suc n)
-  was_held y = elim more.pushed [ inl run ↦ rw run.0 (grind (arith, run.2, in_either before.run.items (x ∷ []) y)) | inr fresh ↦ rw fresh.0 (grind arith) ]
-
-  is_there : IsKept x new
-  is_there =
-      elim more.pushed [
-        | inl run ↦ inl (rw run.0 (in_right before.run.items (x ∷ []) x (inl refl)))
-        | inr fresh ↦ inr (rw fresh.1 (in_right before.fresh.items (x ∷ []) x (inl refl)))
-      ]
-
-  still_there : (y : Item) → IsKept y before → IsKept y new
-  still_there y =
-      elim more.pushed [
-        | inl run ↦ rw (run.0, run.1) (grind (arith, in_left before.run.items (x ∷ []) y))
-        | inr fresh ↦ rw (fresh.0, fresh.1) (grind (arith, in_left before.fresh.items (x ∷ []) y))
-      ]
+-- what is among a list with one more behind it
+pub pushed : {E : Type 0} (xs ys : List E) (x : E) → ys ≡ xs ++ x ∷ [] → Among x ys × ((y : E) → Among y ys → Among y xs ⊎ (y ≡ x)) × ((y : E) → Among y xs → Among y ys)
+pushed xs ys x is = rw is (in_right xs (x ∷ []) x (inl refl), (λ y m. grind (arith, in_either xs (x ∷ []) y m)), (λ y m. in_left xs (x ∷ []) y m))
 
 -- ---- steps in order
 
@@ -352,7 +329,7 @@ module _ (over first second third : Entry → Entry → Bool) (all : List Entry)
 
     -- ---- how they stand once it is put there
 
-    module _ (at : is_at over all n next_one ≡ true) (put_steps : List ℕ) (put : IsStepPut second third all steps i put_steps) where
+    module _ (at : is_at over all n next_one ≡ true) where
       -- one that is better in the second chain is no better in the third: it would dominate an entry of its level
       apart : (p : ℕ) → Among p steps → second (entry_at all p) next_one ≡ true → third (entry_at all p) next_one ≡ false
       apart p m in_second =
@@ -388,32 +365,22 @@ module _ (over first second third : Entry → Entry → Bool) (all : List Entry)
           ]
 
       -- what is kept then: the class goes on or begins anew, with one more
-      module _ (stepped begun new : Level) (x : Item) (class_stays : (stepped.run ≡ kept.run) × (stepped.fresh ≡ kept.fresh) × (stepped.class ≡ kept.class)) (of_class : IsOfClass stepped class begun)
-          (more : IsOneMore mark n begun x new) (place_is : x.place ≡ i) (signed : x.signature ≡ rule next_one) (steps_are : stepped.steps.items ≡ put_steps) where
-        was_kept : (y : Item) → IsKept y begun → IsKept y kept
-        was_kept y m = elim (of_class.within y m) [ inl old ↦ inl (rw (sym class_stays.0) old) | inr came ↦ inr (rw (sym class_stays.1) came) ]
-
-        still_kept : (y : Item) → kept.class ≡ class → IsKept y kept → IsKept y new
-        still_kept y same m = still_there mark n begun x new more y (of_class.stays (class_stays.2 ∙ same) y (elim m [ inl old ↦ inl (rw class_stays.0 old) | inr came ↦ inr (rw class_stays.1 came) ]))
-
-        pub put_stands : StandsFor over second third rule mark all class (i + 1) n new
-        put_stands =
-            let led = swept.led in
-            let is : new.steps.items ≡ front ++ i ∷ rest =
-            more.steps ∙ (of_class.steps ∙ (steps_are ∙ put_is second third led.second_is_chain led.third_is_chain all steps stands.in_order next_one i put_steps refl put)) in
-            record {
-              steps_within = rw is within_more;
-              steps_cover = rw is covers_more;
-              in_order = rw is (in_order_put second third led.second_is_chain led.third_is_chain all steps stands.in_order next_one i refl apart);
-              kept_within = λ y m. elim (was_there mark n begun x new more y m) [ inl old ↦ grind (arith, stands.kept_within y (was_kept y old)) | inr last ↦ grind (arith) ];
-              run_held = λ y m. elim (was_held mark n begun x new more y m) [ inl old ↦ stands.run_held y (rw (sym class_stays.0) (of_class.run y old)) | inr last ↦ last ];
-              kept_cover = λ j behind member. (
-                more.class ∙ of_class.class_is,
-                elim (cases_eq j i) [
-                  | inl same ↦ (x, is_there mark n begun x new more, grind (arith))
-                  | inr other ↦
-                      let w = stands.kept_cover j behind (omega (arith, member.0, other), member.1) in
-                      (w.1.0, still_kept w.1.0 w.0 w.1.1, w.1.2)
-                ],
-              );
-            }
+      pub put_stands : (put_steps : Vec ℕ Global) (x : Item) (new : Level) → IsStepPut second third all steps i put_steps.items → x.place ≡ i → x.signature ≡ rule next_one
+          → IsOneMore mark n (record { steps = put_steps; run = kept.run; fresh = kept.fresh; class = kept.class }) class x new → StandsFor over second third rule mark all class (i + 1) n new
+      put_stands put_steps x new put place_is signed more =
+          let led = swept.led in
+          let is : new.steps.items ≡ front ++ i ∷ rest = more.steps ∙ put_is second third led.second_is_chain led.third_is_chain all steps stands.in_order next_one i put_steps.items refl put in
+          record {
+            steps_within = rw is within_more;
+            steps_cover = rw is covers_more;
+            in_order = rw is (in_order_put second third led.second_is_chain led.third_is_chain all steps stands.in_order next_one i refl apart);
+            kept_within = λ y m. elim (more.within y m) [ inl old ↦ grind (arith, stands.kept_within y old) | inr last ↦ grind (arith) ];
+            run_held = λ y m. elim (more.run y m) [ inl old ↦ stands.run_held y old | inr last ↦ last ];
+            kept_cover = λ j behind member. (
+              more.class_is,
+              elim (cases_eq j i) [
+                | inl same ↦ (x, more.there, grind (arith))
+                | inr other ↦ let w = stands.kept_cover j behind (omega (arith, member.0, other), member.1) in (w.1.0, more.stays w.0 w.1.0 w.1.1, w.1.2)
+              ],
+            );
+          }

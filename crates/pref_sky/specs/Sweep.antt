@@ -1,6 +1,6 @@
 -- No public contract cites this.
 -- One pass over entries in order: three chains that lead their order, and what is kept of each level so far, as far as later entries are compared with it.
-use Rattle.std.specs.Prelude.{◌≡◌, ◌<◌, ◌≤◌, get_or, Bool, true, false, not, ◌&&◌, ◌||◌, ℕ, suc, List, All, ◌⊎◌, length, ◌++◌, ◌∷◌, []}
+use Rattle.std.specs.Prelude.{◌≡◌, ◌<◌, ◌≤◌, get_or, Bool, true, false, not, ◌&&◌, ◌||◌, ℕ, suc, List, All, ◌⊎◌, length}
 use Rattle.pref_term.specs.Order.{IsStrictOrder, StandAlike}
 use Rattle.pref_sky.specs.OwnOrders.{comes_after}
 use Rattle.pref_sky.specs.Items.{entry_at}
@@ -97,11 +97,14 @@ pub record IsOfClass (old : Level) (class : ℕ) (new : Level) : Type 0 where
   pub run : (x : Item) → Among x new.run.items → Among x old.run.items
   pub stays : old.class ≡ class → (x : Item) → IsKept x old → IsKept x new
 
--- the same, with one more in its class: in the run where it was held already, and of this level
-pub record IsOneMore (mark : ℕ → ℕ) (n : ℕ) (before : Level) (x : Item) (new : Level) : Type 0 where
-  pub steps : new.steps.items ≡ before.steps.items
-  pub class : new.class ≡ before.class
-  pub pushed : ((new.run.items ≡ before.run.items ++ x ∷ []) × (new.fresh.items ≡ before.fresh.items) × (mark x.place ≡ suc n)) ⊎ ((new.run.items ≡ before.run.items) × (new.fresh.items ≡ before.fresh.items ++ x ∷ []))
+-- the same steps, and one more of a class that goes on or begins: it is in the run only where it was held already, and of this level
+pub record IsOneMore (mark : ℕ → ℕ) (n : ℕ) (old : Level) (class : ℕ) (x : Item) (new : Level) : Type 0 where
+  pub steps : new.steps.items ≡ old.steps.items
+  pub class_is : new.class ≡ class
+  pub there : IsKept x new
+  pub within : (y : Item) → IsKept y new → IsKept y old ⊎ (y ≡ x)
+  pub run : (y : Item) → Among y new.run.items → Among y old.run.items ⊎ (mark y.place ≡ suc n)
+  pub stays : old.class ≡ class → (y : Item) → IsKept y old → IsKept y new
 
 -- what is known before the i-th entry, of this class, in a sweep that goes up to a cut: what is kept stands for each level so far, and none is left out
 pub record HasSwept (over second third : Entry → Entry → Bool) (rule : Entry → ℕ) (mark : ℕ → ℕ) (cut : ℕ) (all : List Entry) (i class : ℕ) (levels : List Level) : Type 0 where

@@ -89,6 +89,31 @@ fn end_of_no_better(
     steps.len()
 }
 
+/// Puts a place among the steps, and takes out those that are no better in the second and third chain.
+fn put_step(
+    order: &OwnOrder,
+    lead: &Lead,
+    entries: &[Entry],
+    steps: &mut Vec<usize>,
+    place: usize,
+) -> Result<(), AllocError>
+    requires inside { place < length entries.now }
+    requires places { All (λ p. p < length entries.now) steps.old.items }
+    ensures { OnOk result (IsStepPut (second_of order.now lead.now) (third_of order.now lead.now) entries.now steps.old.items place steps.new.items) }
+{
+    let entry = &entries[place];
+    let from = count_better(order, lead, entries, steps, entry);
+    let to = end_of_no_better(order, lead, entries, steps, entry, from);
+    if from == to {
+        steps.insert(from, place)?;
+    } else {
+        // Mostly one step is replaced: then none moves.
+        steps[from] = place;
+        drop(steps.drain(from + 1..to));
+    }
+    Ok(())
+}
+
 /// Whether one of these dominates the entry at a place. The one that does is met sooner the next time.
 fn has_one_over(
     order: &OwnOrder,
@@ -214,32 +239,6 @@ impl Level {
             || (self.class == class && self.has_kept_over(order, lead, entries, place, signature))
     }
 
-    /// Puts a place among the steps, and takes out those that are no better in the second and third chain.
-    fn put_step(
-        &mut self,
-        order: &OwnOrder,
-        lead: &Lead,
-        entries: &[Entry],
-        place: usize,
-    ) -> Result<(), AllocError>
-        requires inside { place < length entries.now }
-        requires steps { All (λ p. p < length entries.now) self.old.steps.items }
-        ensures others { (self.new.run ≡ self.old.run) × (self.new.fresh ≡ self.old.fresh) × (self.new.class ≡ self.old.class) }
-        ensures put { OnOk result (IsStepPut (second_of order.now lead.now) (third_of order.now lead.now) entries.now self.old.steps.items place self.new.steps.items) }
-    {
-        let entry = &entries[place];
-        let from = count_better(order, lead, entries, &self.steps, entry);
-        let to = end_of_no_better(order, lead, entries, &self.steps, entry, from);
-        if from == to {
-            self.steps.insert(from, place)?;
-        } else {
-            // Mostly one step is replaced: then none moves.
-            self.steps[from] = place;
-            drop(self.steps.drain(from + 1..to));
-        }
-        Ok(())
-    }
-
     /// Begins a class, unless it is this one already.
     fn begin_class(&mut self, class: usize)
         ensures { IsOfClass self.old class self.new }
@@ -251,10 +250,17 @@ impl Level {
         }
     }
 
-    /// Keeps one of the class. So many levels are above it.
-    fn keep(&mut self, lead: &Lead, above: usize, item: Item) -> Result<(), AllocError>
-        ensures { OnOk result (IsOneMore (mark_of lead.now) above self.old item self.new) }
+    /// Keeps one of a class, which begins where it is not this one already. So many levels are above it.
+    fn keep(
+        &mut self,
+        lead: &Lead,
+        class: usize,
+        above: usize,
+        item: Item,
+    ) -> Result<(), AllocError>
+        ensures { OnOk result (IsOneMore (mark_of lead.now) above self.old class item self.new) }
     {
+        self.begin_class(class);
         if lead.was_below(item.place, above) {
             self.run.push(item)?;
         } else {
@@ -283,8 +289,7 @@ impl Level {
             → is_at over entries.now above (entry_at entries.now place) ≡ true
             → OnOk result (StandsBy order.now lead.now entries.now class (place + 1) above self.new) }
     {
-        self.put_step(order, lead, entries, place)?;
-        self.begin_class(class);
-        self.keep(lead, above, Item { signature, place })
+        put_step(order, lead, entries, &mut self.steps, place)?;
+        self.keep(lead, class, above, Item { signature, place })
     }
 }
