@@ -1,6 +1,6 @@
 -- What is kept of a level in a sweep: its steps and its run tell whether an entry of the level dominates the next entry, and how they stand for one entry more.
-use Rattle.pref_sky.proofs.Common.{◌≡◌, ℕ, suc, zero, ◌<◌, ◌≤◌, ◌+◌, ◌-◌, Bool, true, false, not, ◌&&◌, ◌⊎◌, inl, inr, List, [], ◌∷◌, ◌++◌, refl, sym, ◌∙◌, ap, arith, filter, length, get_or, take, drop}
-use Rattle.pref_sky.proofs.Common.{Global, Vec, both_ways, and_from, and_right, cases_Bool, or_cases, cases_eq, false_from_ne_true, Entry, entry_at, Item, Among, StandAlike, IsChain, IsInOrder}
+use Rattle.pref_sky.proofs.Common.{◌≡◌, ℕ, suc, zero, ◌<◌, ◌≤◌, ◌+◌, ◌-◌, Bool, true, false, not, ◌&&◌, ◌||◌, ◌⊎◌, inl, inr, List, [], ◌∷◌, ◌++◌, refl, sym, ◌∙◌, ap, arith, filter, length, get_or, take, drop}
+use Rattle.pref_sky.proofs.Common.{Global, Vec, both_ways, cases_Bool, cases_eq, false_from_ne_true, Entry, entry_at, Item, Among, StandAlike, IsChain, IsInOrder}
 use Rattle.pref_sky.proofs.ChainLaws.{level_above, level_below}
 use Rattle.pref_sky.proofs.ListLaws.{among_place, any_from, from_filter, in_filter, in_order_at, in_order_joined, place_of, in_either, in_left, in_right}
 use Rattle.pref_sky.proofs.Merges.{comes_after, unbeaten_over}
@@ -55,7 +55,7 @@ same_level over second third rule mark all class i n old new same stands =
       steps_within = rw same.steps stands.steps_within;
       steps_cover = rw same.steps stands.steps_cover;
       in_order = rw same.steps stands.in_order;
-      kept_within = λ x m. stands.kept_within x (elim m [ inl old ↦ inl (same.run.back x old) | inr came ↦ inr (same.fresh.back x came) ]);
+      kept_within = λ x m. grind (arith, stands.kept_within x, same.run.back x, same.fresh.back x);
       run_held = λ x m. stands.run_held x (same.run.back x m);
       kept_cover = λ j behind member.
           let w = stands.kept_cover j behind member in
@@ -111,20 +111,14 @@ pushed xs ys x is = rw is (in_right xs (x ∷ []) x (inl refl), (λ y m. grind (
 
 -- ---- steps in order
 
--- what a filter keeps where the first n pass and no other, or all others and none of these
-kept_in_front : (p : ℕ → Bool) (xs : List ℕ) (n : ℕ) → ((k : ℕ) → k < n → k < length xs → p (get_or xs k 0) ≡ true) → ((k : ℕ) → n ≤ k → k < length xs → p (get_or xs k 0) ≡ false) → filter p xs ≡ take n xs
-kept_in_front p [] zero pass fail = refl
-kept_in_front p [] (suc n) pass fail = refl
-kept_in_front p (x ∷ xs) zero pass fail = grind (arith, fail 0, kept_in_front p xs zero (λ k near _. absurd (omega (arith, near))) (λ k _ there. fail (suc k) (omega arith) (omega (arith, there))))
-kept_in_front p (x ∷ xs) (suc n) pass fail =
-    grind (arith, pass 0, kept_in_front p xs n (λ k near there. pass (suc k) (omega (arith, near)) (omega (arith, there))) (λ k past there. fail (suc k) (omega (arith, past)) (omega (arith, there))))
-
-kept_behind : (p : ℕ → Bool) (xs : List ℕ) (n : ℕ) → ((k : ℕ) → k < n → k < length xs → p (get_or xs k 0) ≡ false) → ((k : ℕ) → n ≤ k → k < length xs → p (get_or xs k 0) ≡ true) → filter p xs ≡ drop n xs
-kept_behind p [] zero fail pass = refl
-kept_behind p [] (suc n) fail pass = refl
-kept_behind p (x ∷ xs) zero fail pass = grind (arith, pass 0, kept_behind p xs zero (λ k near _. absurd (omega (arith, near))) (λ k _ there. pass (suc k) (omega arith) (omega (arith, there))))
-kept_behind p (x ∷ xs) (suc n) fail pass =
-    grind (arith, fail 0, kept_behind p xs n (λ k near there. fail (suc k) (omega (arith, near)) (omega (arith, there))) (λ k past there. pass (suc k) (omega (arith, past)) (omega (arith, there))))
+-- where the first n pass and no other: what a filter keeps, and what it leaves
+cut_by : (p : ℕ → Bool) (xs : List ℕ) (n : ℕ) → ((k : ℕ) → k < n → k < length xs → p (get_or xs k 0) ≡ true) → ((k : ℕ) → n ≤ k → k < length xs → p (get_or xs k 0) ≡ false)
+    → (filter p xs ≡ take n xs) × (filter (λ x. not (p x)) xs ≡ drop n xs)
+cut_by p [] zero pass fail = (refl, refl)
+cut_by p [] (suc n) pass fail = (refl, refl)
+cut_by p (x ∷ xs) zero pass fail = grind (arith, fail 0, cut_by p xs zero (λ k near _. absurd (omega (arith, near))) (λ k _ there. fail (suc k) (omega arith) (omega (arith, there))))
+cut_by p (x ∷ xs) (suc n) pass fail =
+    grind (arith, pass 0, cut_by p xs n (λ k near there. pass (suc k) (omega (arith, near)) (omega (arith, there))) (λ k past there. fail (suc k) (omega (arith, past)) (omega (arith, there))))
 
 in_order_filtered : {E : Type 0} (le : E → E → Bool) (p : E → Bool) (xs : List E) → IsInOrder le xs → IsInOrder le (filter p xs)
 in_order_filtered le p [] ordered = ordered
@@ -159,7 +153,7 @@ module _ (second third : Entry → Entry → Bool) (second_is_chain : IsChain se
   is_better p = second (entry_at all p) e
 
   abbrev is_behind : ℕ → Bool
-  is_behind p = not (second (entry_at all p) e) && third (entry_at all p) e
+  is_behind p = not (second (entry_at all p) e || not (third (entry_at all p) e))
 
   -- between these a new one is put
   put_is : (place : ℕ) (new : List ℕ) → e ≡ entry_at all place → IsStepPut second third all steps place new → new ≡ filter is_better steps ++ place ∷ filter is_behind steps
@@ -168,10 +162,10 @@ module _ (second third : Entry → Entry → Bool) (second_is_chain : IsChain se
       λ k near there. grind (arith, is, near, put.better.last, put.better.within, in_order_upto k (put.from - 1), second_is_chain.between (step (put.from - 1)) (step k) e) in
       let no_better : (k : ℕ) → put.from ≤ k → k < length steps → is_better (get_or steps k 0) ≡ false =
       λ k past there. grind (arith, is, past, there, put.better.next, in_order_upto put.from k, second_is_chain.between (step k) (step put.from) e) in
-      let front = kept_in_front is_better steps put.from better no_better in
+      let front = (cut_by is_better steps put.from better no_better).0 in
       let rest : filter is_behind steps ≡ drop put.to steps =
-      kept_behind is_behind steps put.to (λ k near there. grind (arith, is, near, there, better k, put.taken_out.skipped k))
-      (λ k past there. grind (arith, is, past, there, put.taken_out.from_to, no_better k, put.taken_out.next, in_order_upto put.to k, third_is_chain.between (step put.to) (step k) e)) in
+      (cut_by (λ p. is_better p || not (third (entry_at all p) e)) steps put.to (λ k near there. grind (arith, is, near, there, better k, put.taken_out.skipped k))
+      (λ k past there. grind (arith, is, past, there, put.taken_out.from_to, no_better k, put.taken_out.next, in_order_upto put.to k, third_is_chain.between (step put.to) (step k) e))).1 in
       grind (arith, put.is, front, rest)
 
   -- and they are in order again where none is better in both chains
@@ -248,14 +242,9 @@ module _ (over first second third : Entry → Entry → Bool) (all : List Entry)
         let covered : IsCovered second third all steps next_one = (w.0, w.1, covers_then second third led.second_is_chain led.third_is_chain (entry_at all w.0) m next_one w.2 (grind (arith, ahead))) in
         let last = last_covers second third led.second_is_chain led.third_is_chain all steps stands.in_order next_one count cut covered in
         let place = get_or steps (count - 1) 0 in
-        let there = among_place steps (count - 1) 0 (omega (arith, cut.within, last.0)) in (
-          last.0,
-          elim (one_ahead first second third led.first_is_chain led.second_is_chain led.third_is_chain m (entry_at all place) next_one ahead (in_first place there) last.1) [
-            | inl over_it ↦ ahead_is_over place i (step_inside place there) inside over_it
-            | inr behind ↦ absurd (both_ways (over m (entry_at all place)) (members_are_apart i n j place member (omega (arith, inside)) (stands.steps_within place there).1)
-                (ahead_is_over j place (omega (arith, member.0, inside)) (step_inside place there) behind))
-          ],
-        )
+        let there = among_place steps (count - 1) 0 (omega (arith, cut.within, last.0)) in
+        let found = one_ahead first second third led.first_is_chain led.second_is_chain led.third_is_chain m (entry_at all place) next_one ahead (in_first place there) last.1 in
+        (last.0, grind (arith, found, ahead_is_over place i (step_inside place there) inside, members_are_apart i n j place member (omega (arith, inside)) (stands.steps_within place there).1, ahead_is_over j place (omega (arith, member.0, inside)) (step_inside place there)))
 
     -- what is found is over the next entry
     pub found_step : (answer : Bool) → IsAsked over second all steps next_one answer → answer ≡ true → comes_after over all (suc n) next_one ≡ true
@@ -274,42 +263,26 @@ module _ (over first second third : Entry → Entry → Bool) (all : List Entry)
       level_too : (x j : ℕ) → x < length all → j < length all → StandAlike over (entry_at all x) (entry_at all j) → are_level_in first second third (entry_at all j) next_one ≡ true
           → over (entry_at all x) next_one ≡ true → are_level_in first second third (entry_at all x) next_one ≡ true
       level_too x j x_inside j_inside alike level above =
-          let e = entry_at all x in
           let m = entry_at all j in
           let led = swept.led in
-          let over_m = ahead_of_level first second third led.first_is_chain led.second_is_chain led.third_is_chain m next_one e level in
-          elim (or_cases (is_ahead first second third e next_one) (are_level_in first second third e next_one) (led.decided e next_one (among x x_inside) (among i inside) above)) [
-            | inl ahead ↦ absurd (both_ways (over e m) (alike.below m ∙ swept.strict.irreflexive m) (ahead_is_over x j x_inside j_inside (over_m ahead)))
-            | inr here ↦ here
-          ]
+          let over_m = ahead_of_level first second third led.first_is_chain led.second_is_chain led.third_is_chain m next_one (entry_at all x) level in
+          grind (arith, led.decided (entry_at all x) next_one (among x x_inside) (among i inside) above, over_m, alike.below m, swept.strict.irreflexive m, ahead_is_over x j x_inside j_inside)
 
       -- one that is level with it in all chains is alike to one that is kept in the class
       one_over : (j : ℕ) → IsMember over all i n j → over (entry_at all j) next_one ≡ true → are_level_in first second third (entry_at all j) next_one ≡ true
           → (kept.class ≡ class) × ((x : Item) × IsKept x kept × (is_over x ≡ true))
       one_over j member above level =
-          let from : class ≤ j = grind (arith, of_class.apart j, level) in
-          let w = stands.kept_cover j from member in
+          let w = stands.kept_cover j (grind (arith, of_class.apart j, level)) member in
           let x = w.1.0 in
           let over_it : over (entry_at all x.place) next_one ≡ true = w.1.2.below next_one ∙ above in
           let of_all = stands.kept_within x w.1.1 in
           let x_inside : x.place < length all = omega (arith, of_all.0.0, inside) in
           let level_x = level_too x.place j x_inside (omega (arith, member.0, inside)) w.1.2 level over_it in
-          let within : is_within x.signature (rule next_one) ≡ true =
-          ap (λ (signature : ℕ). is_within signature (rule next_one)) of_all.1 ∙ signed (entry_at all x.place) next_one (among x.place x_inside) (among i inside) level_x over_it in
-          (w.0, (x, w.1.1, and_from (is_within x.signature (rule next_one)) (over (entry_at all x.place) next_one) within over_it))
+          (w.0, (x, w.1.1, grind (arith, over_it, of_all.1, signed (entry_at all x.place) next_one (among x.place x_inside) (among i inside) level_x over_it)))
 
       -- those that it is not compared with are not over it: of those that were of this level none is over one that was held too, of this level or of one above
       pub none_kept : {cut : ℕ} → AreHeld over cut mark all → mark i ≤ suc n → ((x : Item) → IsAskedOf (mark i) x kept → is_over x ≡ false) → (x : Item) → IsKept x kept → is_over x ≡ false
-      none_kept held near none x m =
-          elim m [
-            | inr came ↦ none x (inl came)
-            | inl old ↦ elim (cases_eq (mark i) 0) [
-              | inl new ↦ none x (inr (new, old))
-              | inr was ↦
-                  let x_inside : x.place < length all = omega (arith, (stands.kept_within x (inl old)).0.0, inside) in
-                  and_right (is_within x.signature (rule next_one)) (over (entry_at all x.place) next_one) (held.apart i x.place inside x_inside (omega (arith, was)) (omega (arith, near, stands.run_held x old)))
-            ]
-          ]
+      none_kept held near none x m = grind (arith, none x, stands.kept_within x m, stands.run_held x, held.apart i x.place)
 
       -- where neither the last step that is no worse nor one that is kept in the class is over it, none is
       pub none_over : (answer : Bool) → IsAsked over second all steps next_one answer → answer ≡ false
@@ -317,15 +290,9 @@ module _ (over first second third : Entry → Entry → Bool) (all : List Entry)
       none_over answer asked no_step no_one =
           false_from_ne_true (comes_after over all (suc n) next_one) (λ late.
           let w = member_over i n inside late in
-          let m = entry_at all w.0 in
-          let decided = swept.led.decided m next_one (among w.0 (omega (arith, w.1.0, inside))) (among i inside) w.2 in
-          elim (or_cases (is_ahead first second third m next_one) (are_level_in first second third m next_one) decided) [
-            | inl ahead ↦
-                let last = asked.none no_step in
-                let found = step_over w.0 last.0 last.1 w.1 ahead in
-                both_ways (over (step_at all steps (last.0 - 1)) next_one) (last.2 found.0) found.1
-            | inr level ↦ let found = one_over w.0 w.1 w.2 level in both_ways (is_over found.1.0) (no_one found.0 found.1.0 found.1.1) found.1.2
-          ])
+          let decided = swept.led.decided (entry_at all w.0) next_one (among w.0 (omega (arith, w.1.0, inside))) (among i inside) w.2 in
+          let last = asked.none no_step in
+          grind (arith, decided, step_over w.0 last.0 last.1 w.1, last.2, one_over w.0 w.1 w.2, no_one))
 
     -- ---- how they stand once it is put there
 
@@ -334,14 +301,13 @@ module _ (over first second third : Entry → Entry → Bool) (all : List Entry)
       apart : (p : ℕ) → Among p steps → second (entry_at all p) next_one ≡ true → third (entry_at all p) next_one ≡ false
       apart p m in_second =
           let ahead = better_is_ahead first second third swept.led.second_is_chain swept.led.third_is_chain (entry_at all p) next_one (in_first p m) in_second in
-          false_from_ne_true (third (entry_at all p) next_one) (λ in_both. both_ways (over (entry_at all p) next_one) (members_are_apart i n p i (stands.steps_within p m) (omega (arith, inside)) at)
-          (ahead_is_over p i (step_inside p m) inside (ahead in_both)))
+          grind (arith, ahead, members_are_apart i n p i (stands.steps_within p m) (omega (arith, inside)) at, ahead_is_over p i (step_inside p m) inside)
 
       abbrev front : List ℕ
       front = filter (λ p. second (entry_at all p) next_one) steps
 
       abbrev rest : List ℕ
-      rest = filter (λ p. not (second (entry_at all p) next_one) && third (entry_at all p) next_one) steps
+      rest = filter (λ p. not (second (entry_at all p) next_one || not (third (entry_at all p) next_one))) steps
 
       within_more : (p : ℕ) → Among p (front ++ i ∷ rest) → IsMember over all (i + 1) n p
       within_more p m = grind (arith, at, in_either front (i ∷ rest) p m, from_filter, stands.steps_within p)
@@ -355,13 +321,7 @@ module _ (over first second third : Entry → Entry → Bool) (all : List Entry)
             | inl same ↦ (i, here, grind (arith, led.second_is_chain.strict.irreflexive next_one, led.third_is_chain.strict.irreflexive next_one))
             | inr other ↦
                 let w = stands.steps_cover j (omega (arith, member.0, other), member.1) in
-                elim (cases_Bool (second (entry_at all w.0) next_one)) [
-                  | inl better ↦ (w.0, in_left front (i ∷ rest) w.0 (in_filter (λ p. second (entry_at all p) next_one) steps w.0 w.1 better), w.2)
-                  | inr no_better ↦ elim (cases_Bool (third (entry_at all w.0) next_one)) [
-                    | inl stays ↦ (w.0, in_right front (i ∷ rest) w.0 (inr (in_filter (λ p. not (second (entry_at all p) next_one) && third (entry_at all p) next_one) steps w.0 w.1 (grind arith))), w.2)
-                    | inr taken ↦ (i, here, covers_then second third led.second_is_chain led.third_is_chain next_one (entry_at all w.0) (entry_at all j) (grind arith) w.2)
-                  ]
-                ]
+                grind (arith, here, w.1, w.2, in_left front (i ∷ rest) w.0, in_right front (i ∷ rest) w.0, in_filter, covers_then second third led.second_is_chain led.third_is_chain next_one (entry_at all w.0) (entry_at all j))
           ]
 
       -- what is kept then: the class goes on or begins anew, with one more
