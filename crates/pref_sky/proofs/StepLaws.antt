@@ -64,10 +64,6 @@ same_level over second third rule mark all class i n old new same stands =
     }
 
 module _ (over second third : Entry → Entry → Bool) (rule : Entry → ℕ) (mark : ℕ → ℕ) (all : List Entry) (class i n : ℕ) (kept : Level) where
-  -- an empty one stands for none
-  pub stands_for_none : ((j : ℕ) → IsMember over all i n j → ⊥) → kept.steps.items ≡ [] → kept.run.items ≡ [] → kept.fresh.items ≡ [] → StandsFor over second third rule mark all class i n kept
-  stands_for_none none no_steps no_run no_fresh = grind (arith)
-
   module _ (stands : StandsFor over second third rule mark all class i n kept) where
     -- no entry so far is of a class that begins behind them
     pub new_class : (later : ℕ) → i ≤ later → StandsFor over second third rule mark all later i n kept
