@@ -146,6 +146,7 @@ static void test_refusals(void)
     uint32_t left = 77;
     size_t count = 77;
     const prefq_change twice[] = {{PREFQ_DELETE, 1, NULL}, {PREFQ_UPDATE, 1, row}}, odd[] = {{PREFQ_DELETE, 1, NULL}, {(prefq_verb)9, 1, row}};
+    const prefq_change empty[] = {{PREFQ_DELETE, 1, NULL}, {PREFQ_INSERT, 0, NULL}};
     EXPECT(is_refused(prefq_insert(table, row, 1, &id), PREFQ_TABLE, 5, -1, "width row 0") && prefq_last_refusal()->row == 0);
     EXPECT(is_refused(prefq_insert(table, NULL, 2, &id), PREFQ_ARGUMENTS, 0, -1, "the values are NULL"));
     EXPECT(is_refused(prefq_update(table, UINT64_MAX, row, 2), PREFQ_CLIENT, 7, -1, "no such row 18446744073709551615"));
@@ -153,6 +154,7 @@ static void test_refusals(void)
     EXPECT(is_refused(prefq_commit(table, twice, 2, 2, &id), PREFQ_COMMIT, 12, 2, "twice place 2"));
     EXPECT(is_refused(prefq_commit(table, twice, 0, 2, &id), PREFQ_COMMIT, 13, -1, "change count"));
     EXPECT(is_refused(prefq_commit(table, odd, 2, 2, &id), PREFQ_ARGUMENTS, 0, 2, "there is no such change place 2"));
+    EXPECT(is_refused(prefq_commit(table, empty, 2, 2, &id), PREFQ_ARGUMENTS, 0, 2, "there is no such change place 2"));
     EXPECT(is_refused(prefq_ask(table, 1, " \tbest low(prise)", 17, &answer, &count), PREFQ_TERM, 2, 11, "unknown column at 11"));
     EXPECT(is_refused(prefq_ask(table, 1, "best low(price)\nas 1 delete 1", 29, &answer, &count), PREFQ_TERM, 1, 15, "unexpected at 15"));
     EXPECT(is_refused(prefq_ask(table, 1, "best low(price)\0 * low(dist)", 28, &answer, &count), PREFQ_TERM, 1, 15, "unexpected at 15"));

@@ -1,5 +1,5 @@
 -- The changes of a commit, by its pieces. (this project)
-use Rattle.std.specs.Prelude.{ℕ, Bool, ◌==◌, ◌+◌, ◌-◌, ◌&&◌, not, nat_lt, List, [], ◌∷◌, length, map, take, Option, Some, None, Result, Ok, Err, if◌then◌else◌}
+use Rattle.std.specs.Prelude.{ℕ, Bool, ◌==◌, ◌+◌, ◌-◌, ◌&&◌, ◌||◌, not, nat_lt, List, [], ◌∷◌, length, map, take, Option, Some, None, Result, Ok, Err, if◌then◌else◌}
 use Rattle.pref_table.specs.Rows.{padded}
 use Rattle.pref_table.specs.declared.fault.TableFault.TheVariants.{Width}
 use Rattle.pref_core.specs.Changes.{commit_of}
@@ -11,9 +11,9 @@ use Rattle.prefq_c.specs.declared.changes.Piece.{Piece}
 use Rattle.prefq_c.specs.declared.fault.Fault.{Fault}
 use Rattle.prefq_c.specs.declared.fault.Fault.TheVariants.{Values, Changes, NoChange, NoValues}
 
--- whether a piece is a change: its verb is 1 for an insert, 2 for an update, or 3 for a delete
+-- whether a piece is a change: its verb is 1 for an insert, 2 for an update, which need values, or 3 for a delete
 abbrev pub is_change : Piece → Bool
-is_change piece = nat_lt 0 piece.verb && nat_lt piece.verb 4
+is_change piece = (piece.verb == 3) || (nat_lt 0 piece.verb && nat_lt piece.verb 3 && nat_lt 0 piece.address)
 
 -- that change
 abbrev pub change_of : ℕ → Piece → Change

@@ -13,6 +13,7 @@ use Rattle.pref_script.specs.LiveTable.{names_of, next_number, running_of}
 use Rattle.prefq_c.specs.Ended.{done}
 use Rattle.prefq_c.specs.Ends.{Refused}
 use Rattle.prefq_c.specs.declared.ended.Ended.{Ended}
+use Rattle.prefq_c.specs.declared.ended.Refusal.{Refusal}
 use Rattle.prefq_c.specs.declared.fault.Fault.{Fault}
 use Rattle.prefq_c.specs.declared.fault.Fault.TheVariants.{Values, Opening, Outside, Memory}
 use Rattle.prefq_c.specs.declared.sizes.Sizes.{Sizes}
@@ -41,8 +42,8 @@ limits_of sizes rows = record {
 }
 
 -- what an opening answers: the handle has the table, and the result is its number of columns; or it has what it had, and there is no memory, or a refusal
-abbrev pub Gives : Result Table Fault → Option Table → Option Table → List ℕ → List ℕ → Ended → Type 0
-Gives (Ok opening) before after old new ended = ((ended ≡ done (length (names_of opening.live))) × (after ≡ Some opening)) ⊎ ((ended.outcome ≡ 2) × (after ≡ before))
+abbrev pub Gives : Result Table Fault → Option Table → Option Table → Refusal → Refusal → Ended → Type 0
+Gives (Ok opening) before after old new ended = ((ended ≡ done (length (names_of opening.live))) × (new ≡ old) × (after ≡ Some opening)) ⊎ (Refused Memory old new ended × (after ≡ before))
 Gives (Err why) before after old new ended = Refused why old new ended × (after ≡ before)
 
 -- numbers have so many rows of this width
@@ -97,5 +98,5 @@ abbrev pub Opens : Limits → Result TableIs TableFault → Result Table Fault �
 Opens limits table result = (AreAllowed limits → OpensTable limits table result) × ((AreAllowed limits → ⊥) → result ≡ Err Outside)
 
 -- a table is opened in a handle, and that is answered
-abbrev pub OpensIn : Limits → Result TableIs TableFault → Option Table → Option Table → List ℕ → List ℕ → Ended → Type 0
+abbrev pub OpensIn : Limits → Result TableIs TableFault → Option Table → Option Table → Refusal → Refusal → Ended → Type 0
 OpensIn limits table before after old new ended = (returned : Result Table Fault) × Opens limits table returned × Gives returned before after old new ended

@@ -1,43 +1,55 @@
 //! What a call answers of what was returned.
-ghost use Rattle.std.specs.Prelude.{◌≡◌, ◌≤◌, ◌++◌, ◌+◌, None, length, take, Result};
-ghost use Rattle.prefq_c.specs.Ends.{Answered, Copied, Refused, Returns};
+ghost use Rattle.std.specs.Prelude.{◌≡◌, ◌≤◌, ◌<◌, ◌++◌, ◌+◌, None, length, take, Result};
+ghost use Rattle.prefq_c.specs.Ends.{Answered, Put, Refused, Returns};
+ghost use Rattle.prefq_c.specs.Faults.{behind_number};
 ghost use Rattle.prefq_c.specs.Numbers.{row_numbers, rows_numbers};
 
-use crate::ended::{Ended, OUT_OF_MEMORY, done, without_memory};
+use crate::ended::{Ended, OUT_OF_MEMORY, REFUSED, Refusal, done};
 use crate::fault::{Fault, refusal_numbers, refusal_text};
 use crate::handle::{Handle, freeze};
 use crate::table::Table;
 use pref_sky::Ranked;
 use std::alloc::Global;
 
-/// Copies a text to the head of an array, as far as it fits.
-pub fn copy_text(text: &[u8], array: &mut [u8])
-    ensures { Copied text.now array.old array.new }
+/// Puts a text and a zero behind it at the head of an array, as far as both fit.
+pub fn put_text(text: &[u8], array: &mut [u8])
+    requires { 0 < length array.old }
+    ensures { Put text.now array.old array.new }
 {
-    let count = text.len().min(array.len());
+    let count = text.len().min(array.len() - 1);
     array[..count].copy_from_slice(&text[..count]);
+    array[count] = 0;
 }
 
-/// The refusal of a call, with its text in the array; without one where there is no memory for it.
-pub fn refuse(alloc: Global, why: Fault, said: &mut [u8]) -> Ended
+/// What stands behind a number, a colon and a blank.
+fn behind_number(number: u32, text: &[u8]) -> &[u8]
+    ensures { result.now ≡ behind_number number text.now }
+{
+    let head = if number < 10 { 3 } else { 4 };
+    &text[text.len().min(head)..]
+}
+
+/// Refuses a call; without its words where there is no memory for them.
+pub fn refuse(alloc: Global, why: Fault, said: &mut Refusal) -> Ended
     ensures { Refused why said.old said.new result }
 {
+    said.why = refusal_numbers(why);
     if let Fault::Memory = why {
-        return without_memory();
+        put_text(b"out of memory", &mut said.text);
+        return OUT_OF_MEMORY;
     }
     match refusal_text(alloc, why) {
-        Ok(text) => {
-            copy_text(text.as_bytes(), said);
-            let mut ended = refusal_numbers(why);
-            ended.length = text.len();
-            ended
-        }
-        Err(_) => refusal_numbers(why),
+        Ok(text) => put_text(
+            behind_number(said.why.number, text.as_bytes()),
+            &mut said.text,
+        ),
+        Err(_) => put_text(b"", &mut said.text),
     }
+    REFUSED
 }
 
 /// What is answered of what was returned.
-fn answer(alloc: Global, returned: Result<u64, Fault>, said: &mut [u8]) -> Ended
+fn answer(alloc: Global, returned: Result<u64, Fault>, said: &mut Refusal) -> Ended
     ensures { Answered returned said.old said.new result }
 {
     match returned {
@@ -52,13 +64,13 @@ pub fn end(
     handle: &mut Handle,
     table: Box<Table>,
     returned: Result<u64, Fault>,
-    said: &mut [u8],
+    said: &mut Refusal,
 ) -> Ended
     requires { handle.old.value ≡ None }
     ensures { Returns returned table.value handle.new.value said.old said.new result }
 {
     let ended = answer(alloc, returned, said);
-    if ended.outcome != OUT_OF_MEMORY {
+    if ended.outcome != OUT_OF_MEMORY.outcome {
         *handle = freeze(table);
     }
     ended

@@ -13,12 +13,15 @@ const INSERT: u32 = 1;
 
 const UPDATE: u32 = 2;
 
-/// One change of a commit, as C has it: of the values as many count as the table has columns.
+const DELETE: u32 = 3;
+
+/// One change of a commit, as C has it: where its values are, which is 0 without any, and a copy of them, of which as many count as the table has columns.
 #[repr(C)]
 #[derive(Clone, Copy)]
 pub struct Piece {
     pub verb: u32,
     pub id: u64,
+    pub address: usize,
     pub values: [i64; 16],
 }
 
@@ -61,11 +64,11 @@ fn commit_of(schema: &Schema, pieces: &[Piece]) -> Result<Commit, CoreFault>
     Commit::of(&changes[..pieces.len()])
 }
 
-/// Whether a piece is a change.
+/// Whether a piece is a change, with its values where it needs any.
 fn is_change(piece: &Piece) -> bool
     ensures { result ≡ is_change piece.now }
 {
-    0 < piece.verb && piece.verb < 4
+    piece.verb == DELETE || (0 < piece.verb && piece.verb < DELETE && piece.address > 0)
 }
 
 /// The place, from 1 on, of the first piece that is no change.

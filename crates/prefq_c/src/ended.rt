@@ -1,64 +1,87 @@
 //! How a call ends.
 ghost use Rattle.std.specs.Prelude.{◌≡◌};
-ghost use Rattle.prefq_c.specs.Ended.{done, ended_as, numbered};
+ghost use Rattle.prefq_c.specs.Ended.{done, numbered};
 
-/// It was done.
-const DONE: u8 = 0;
-
-/// It was refused, and the table is as the refusal leaves it.
-const REFUSED: u8 = 1;
-
-/// There was no memory, and there is no table.
-pub const OUT_OF_MEMORY: u8 = 2;
-
-/// A place or a row that a refusal has not.
-const NOWHERE: u64 = u64::MAX;
-
-/// How a call ended: its result, or the numbers of the refusal and how long its text is, of which the caller's array has as much as fits.
+/// How a call ended, by the numbers of prefq.h, and its result, which is 0 of a call that was not done.
 #[repr(C)]
 #[derive(Clone, Copy)]
 pub struct Ended {
-    pub outcome: u8,
-    pub kind: u8,
-    pub number: u8,
+    pub outcome: i32,
+    pub amount: u64,
+}
+
+/// A call that was refused: the table is as the refusal leaves it.
+pub const REFUSED: Ended = Ended {
+    outcome: -1,
+    amount: 0,
+};
+
+/// A call for which there was no memory: there is no table.
+pub const OUT_OF_MEMORY: Ended = Ended {
+    outcome: -2,
+    amount: 0,
+};
+
+/// A place or a row that a refusal has not; to C it is -1.
+const NOWHERE: u64 = u64::MAX;
+
+/// Why a call was refused, in numbers.
+#[repr(C)]
+#[derive(Clone, Copy)]
+pub struct Why {
+    pub kind: u32,
+    pub number: u32,
     pub place: u64,
     pub row: u64,
     pub amount: u64,
-    pub length: usize,
 }
 
-/// These numbers, and neither a place nor a row nor a text.
-fn of(outcome: u8, kind: u8, number: u8, amount: u64) -> Ended
-    ensures { result ≡ ended_as outcome kind number amount }
-{
-    Ended {
-        outcome,
-        kind,
-        number,
-        place: NOWHERE,
-        row: NOWHERE,
-        amount,
-        length: 0,
+impl Why {
+    /// The same with the place that it names, in a question, among names or among changes.
+    pub fn at(self, place: u64) -> Why
+        ensures { result ≡ record self { place = place } }
+    {
+        Why { place, ..self }
     }
+
+    /// With the row of a table.
+    pub fn in_row(self, row: u64) -> Why
+        ensures { result ≡ record self { row = row } }
+    {
+        Why { row, ..self }
+    }
+
+    /// With an amount.
+    pub fn of(self, amount: u64) -> Why
+        ensures { result ≡ record self { amount = amount } }
+    {
+        Why { amount, ..self }
+    }
+}
+
+/// The last refusal: what the program says behind its number, with a zero at the end, and its numbers.
+#[repr(C)]
+pub struct Refusal {
+    pub text: [u8; 160],
+    pub why: Why,
 }
 
 /// A call that was done, with this result.
 pub fn done(amount: u64) -> Ended
     ensures { result ≡ done amount }
 {
-    of(DONE, 0, 0, amount)
+    Ended { outcome: 0, amount }
 }
 
-/// A call that is refused, by the kind and the number of the refusal.
-pub fn numbered(kind: u8, number: u8) -> Ended
+/// A refusal of this kind and number, which names nothing.
+pub fn numbered(kind: u32, number: u32) -> Why
     ensures { result ≡ numbered kind number }
 {
-    of(REFUSED, kind, number, 0)
-}
-
-/// A call with neither a result nor a refusal, since there was no memory.
-pub fn without_memory() -> Ended
-    ensures { result.outcome ≡ 2 }
-{
-    of(OUT_OF_MEMORY, 0, 0, 0)
+    Why {
+        kind,
+        number,
+        place: NOWHERE,
+        row: NOWHERE,
+        amount: 0,
+    }
 }

@@ -4,7 +4,7 @@ ghost use Rattle.prefq_c.specs.Faults.{act_fault, core_refusal, question_fault, 
 ghost use Rattle.prefq_c.specs.Ended.{numbered};
 ghost use Rattle.prefq_c.specs.declared.fault.Fault.TheVariants.{Memory};
 
-use crate::ended::{Ended, numbered};
+use crate::ended::{Why, numbered};
 use pref_core::CoreFault;
 use pref_script::engine::{push_core_fault, push_table_fault, push_term_fault};
 use pref_table::TableFault;
@@ -77,58 +77,22 @@ impl From<TermFault> for Fault {
 }
 
 /// The kinds of refusals, as prefq.h numbers them.
-const CLIENT: u8 = 1;
+const CLIENT: u32 = 1;
 
-const TABLE: u8 = 2;
+const TABLE: u32 = 2;
 
-const TERM: u8 = 3;
+const TERM: u32 = 3;
 
-const COMMIT: u8 = 4;
+const COMMIT: u32 = 4;
 
-const OPENING: u8 = 5;
+const OPENING: u32 = 5;
 
-const ARGUMENTS: u8 = 6;
+const ARGUMENTS: u32 = 6;
 
-const TABLE_END: u8 = 7;
-
-/// A refusal that names a place, in a question, among names or among changes.
-fn at_place(kind: u8, number: u8, place: u64) -> Ended
-    ensures { result ≡ record (numbered kind number) { place = place } }
-{
-    let mut ended = numbered(kind, number);
-    ended.place = place;
-    ended
-}
-
-/// A refusal that names an amount.
-fn of_amount(kind: u8, number: u8, amount: u64) -> Ended
-    ensures { result ≡ record (numbered kind number) { amount = amount } }
-{
-    let mut ended = numbered(kind, number);
-    ended.amount = amount;
-    ended
-}
-
-/// A refusal that names a value of a table.
-fn at_value(number: u8, row: u64, col: u64) -> Ended
-    ensures { result ≡ record (numbered 2 number) { place = col; row = row } }
-{
-    let mut ended = at_place(TABLE, number, col);
-    ended.row = row;
-    ended
-}
-
-/// A refusal of a row.
-fn at_row(number: u8, row: u64) -> Ended
-    ensures { result ≡ record (numbered 2 number) { row = row } }
-{
-    let mut ended = numbered(TABLE, number);
-    ended.row = row;
-    ended
-}
+const TABLE_END: u32 = 7;
 
 /// The numbers of a refusal of the engine, which may be about changes or opening rows.
-fn core_refusal(kind: u8, why: CoreFault) -> Ended
+fn core_refusal(kind: u32, why: CoreFault) -> Why
     ensures { result ≡ core_refusal kind why }
 {
     match why {
@@ -137,51 +101,51 @@ fn core_refusal(kind: u8, why: CoreFault) -> Ended
         CoreFault::QueryOpen => numbered(kind, 3),
         CoreFault::NoQuery => numbered(kind, 4),
         CoreFault::AllScanned => numbered(kind, 5),
-        CoreFault::NotDone { left } => of_amount(kind, 6, left),
-        CoreFault::NoSuchRow { id } => of_amount(kind, 7, id),
-        CoreFault::Full { needed } => of_amount(kind, 8, needed),
+        CoreFault::NotDone { left } => numbered(kind, 6).of(left),
+        CoreFault::NoSuchRow { id } => numbered(kind, 7).of(id),
+        CoreFault::Full { needed } => numbered(kind, 8).of(needed),
         CoreFault::OutOfMemory => numbered(kind, 9),
-        CoreFault::Twice { place } => at_place(kind, 12, place),
+        CoreFault::Twice { place } => numbered(kind, 12).at(place),
         CoreFault::ChangeCount => numbered(kind, 13),
     }
 }
 
 /// Those of names and values.
-fn table_refusal(why: TableFault) -> Ended
+fn table_refusal(why: TableFault) -> Why
     ensures { result ≡ table_refusal why }
 {
     match why {
         TableFault::NoColumns => numbered(TABLE, 1),
         TableFault::TooManyColumns => numbered(TABLE, 2),
-        TableFault::BadName { col } => at_place(TABLE, 3, col),
-        TableFault::SameName { col } => at_place(TABLE, 4, col),
-        TableFault::Width { row } => at_row(5, row),
-        TableFault::NotWhole { row, col } => at_value(6, row, col),
-        TableFault::OutOfRange { row, col } => at_value(7, row, col),
+        TableFault::BadName { col } => numbered(TABLE, 3).at(col),
+        TableFault::SameName { col } => numbered(TABLE, 4).at(col),
+        TableFault::Width { row } => numbered(TABLE, 5).in_row(row),
+        TableFault::NotWhole { row, col } => numbered(TABLE, 6).at(col).in_row(row),
+        TableFault::OutOfRange { row, col } => numbered(TABLE, 7).at(col).in_row(row),
         TableFault::TooManyRows => numbered(TABLE, 8),
         TableFault::OutOfMemory => numbered(TABLE, 9),
     }
 }
 
 /// Those of a question.
-fn term_refusal(why: TermFault) -> Ended
+fn term_refusal(why: TermFault) -> Why
     ensures { result ≡ term_refusal why }
 {
     match why {
-        TermFault::Unexpected { at } => at_place(TERM, 1, at),
-        TermFault::UnknownColumn { at } => at_place(TERM, 2, at),
-        TermFault::NumberRange { at } => at_place(TERM, 3, at),
-        TermFault::TooDeep { at } => at_place(TERM, 4, at),
+        TermFault::Unexpected { at } => numbered(TERM, 1).at(at),
+        TermFault::UnknownColumn { at } => numbered(TERM, 2).at(at),
+        TermFault::NumberRange { at } => numbered(TERM, 3).at(at),
+        TermFault::TooDeep { at } => numbered(TERM, 4).at(at),
         TermFault::TooLong => numbered(TERM, 5),
-        TermFault::BadCount { at } => at_place(TERM, 6, at),
+        TermFault::BadCount { at } => numbered(TERM, 6).at(at),
         TermFault::NoMinOrMax => numbered(TERM, 7),
         TermFault::OutOfMemory => numbered(TERM, 8),
-        TermFault::EmptyRange { at } => at_place(TERM, 9, at),
+        TermFault::EmptyRange { at } => numbered(TERM, 9).at(at),
     }
 }
 
 /// The numbers of a refusal, before its text is there.
-pub fn refusal_numbers(why: Fault) -> Ended
+pub fn refusal_numbers(why: Fault) -> Why
     ensures { result ≡ refusal_numbers why }
 {
     match why {
@@ -190,7 +154,7 @@ pub fn refusal_numbers(why: Fault) -> Ended
         Fault::Question(why) => term_refusal(why),
         Fault::Changes(why) => core_refusal(COMMIT, why),
         Fault::Opening(why) => core_refusal(OPENING, why),
-        Fault::NoChange { place } => at_place(ARGUMENTS, 0, place),
+        Fault::NoChange { place } => numbered(ARGUMENTS, 0).at(place),
         Fault::Outside | Fault::NoValues => numbered(ARGUMENTS, 0),
         Fault::Memory => numbered(TABLE_END, 0),
     }
@@ -212,7 +176,7 @@ pub fn refusal_text(alloc: Global, why: Fault) -> Result<String, AllocError>
             return format!(in alloc; "0: there is no such change place {place}");
         }
         Fault::NoValues => text.push_str("0: the values are NULL")?,
-        Fault::Memory => {}
+        Fault::Memory => text.push_str("0: out of memory")?,
     }
     Ok(text)
 }

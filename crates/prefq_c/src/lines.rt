@@ -1,11 +1,11 @@
 //! The calls that give a table lines of the language of `prefq live`.
-ghost use Rattle.std.specs.Prelude.{◌≡◌, IfSome, IsSome, string_bytes};
+ghost use Rattle.std.specs.Prelude.{◌≡◌, ◌<◌, IfSome, IsSome, length, string_bytes};
 ghost use Rattle.pref_script.specs.Script.{raw_lines};
-ghost use Rattle.prefq_c.specs.Ends.{Copied, Ends};
+ghost use Rattle.prefq_c.specs.Ends.{Ends, Put};
 ghost use Rattle.prefq_c.specs.Lines.{KeepsNoReplies, RepliesEach};
 
-use crate::answer::{copy_text, end};
-use crate::ended::Ended;
+use crate::answer::{end, put_text};
+use crate::ended::{Ended, Refusal};
 use crate::handle::{Handle, freeze, take};
 use std::alloc::Global;
 
@@ -16,7 +16,7 @@ pub extern "C" fn prefq_table_lines(
     alloc: Global,
     handle: &mut Handle,
     lines: &[u8],
-    said: &mut [u8],
+    said: &mut Refusal,
 ) -> Ended
     requires { IsSome handle.old.value }
     ensures { IfSome handle.old.value (λ before. Ends (RepliesEach (raw_lines lines.now) before) handle.new.value said.old said.new result) }
@@ -26,16 +26,17 @@ pub extern "C" fn prefq_table_lines(
     end(alloc, handle, table, returned, said)
 }
 
-/// Copies the replies that a table keeps, as far as they fit. The table has them no more then.
+/// Copies the replies that a table keeps, and a zero behind them, as far as they fit. The table has them no more then.
 #[unsafe(no_mangle)]
 pub extern "C" fn prefq_table_replies(alloc: Global, handle: &mut Handle, replies: &mut [u8])
-    requires { IsSome handle.old.value }
-    ensures replies { IfSome handle.old.value (λ before. Copied (string_bytes before.text) replies.old replies.new) }
+    requires some { IsSome handle.old.value }
+    requires room { 0 < length replies.old }
+    ensures replies { IfSome handle.old.value (λ before. Put (string_bytes before.text) replies.old replies.new) }
     ensures left { IfSome handle.old.value (λ before. IfSome handle.new.value (λ after. KeepsNoReplies before after)) }
-    ensures some { IsSome handle.new.value }
+    ensures kept { IsSome handle.new.value }
 {
     let mut table = take(alloc, handle);
-    copy_text(table.text.as_bytes(), replies);
+    put_text(table.text.as_bytes(), replies);
     table.forget_replies();
     *handle = freeze(table);
 }

@@ -1,12 +1,12 @@
 //! The calls that open and close a table.
 //!
-//! An opening answers the outcome 0 with the number of columns, 1 with the refusal, or 2 where there was no memory.
+//! An opening answers the outcome 0 with the number of columns, -1 with the refusal, or -2 where there was no memory.
 ghost use Rattle.std.specs.Prelude.{◌≡◌, ◌≤◌, None, IsSome};
 ghost use Rattle.pref_table.specs.Tables.{table_of};
 ghost use Rattle.prefq_c.specs.Openings.{Gives, HaveRows, OpensIn, feeds, limits_of, numbers_table};
 
 use crate::answer::refuse;
-use crate::ended::{Ended, done, without_memory};
+use crate::ended::{Ended, Refusal, done};
 use crate::fault::Fault;
 use crate::handle::{Handle, freeze, take};
 use crate::sizes::Sizes;
@@ -14,7 +14,12 @@ use crate::table::Table;
 use std::alloc::Global;
 
 /// The end of an opening: the handle gets the table.
-fn give(alloc: Global, opened: Result<Table, Fault>, handle: &mut Handle, said: &mut [u8]) -> Ended
+fn give(
+    alloc: Global,
+    opened: Result<Table, Fault>,
+    handle: &mut Handle,
+    said: &mut Refusal,
+) -> Ended
     ensures { Gives opened handle.old.value handle.new.value said.old said.new result }
 {
     let table = match opened {
@@ -27,7 +32,7 @@ fn give(alloc: Global, opened: Result<Table, Fault>, handle: &mut Handle, said: 
             *handle = freeze(table);
             done(width)
         }
-        Err(_) => without_memory(),
+        Err(_) => refuse(alloc, Fault::Memory, said),
     }
 }
 
@@ -38,7 +43,7 @@ pub extern "C" fn prefq_table_open(
     handle: &mut Handle,
     sizes: &Sizes,
     text: &[u8],
-    said: &mut [u8],
+    said: &mut Refusal,
 ) -> Ended
     ensures { OpensIn (limits_of sizes.now (feeds text.now)) (table_of text.now) handle.old.value handle.new.value said.old said.new result }
 {
@@ -55,7 +60,7 @@ pub extern "C" fn prefq_table_open_rows(
     count: usize,
     width: usize,
     numbers: &[i64],
-    said: &mut [u8],
+    said: &mut Refusal,
 ) -> Ended
     requires { count ≤ 65536 → width ≤ 16 → HaveRows width count numbers.now }
     ensures { OpensIn (limits_of sizes.now count) (numbers_table header.now count width numbers.now) handle.old.value handle.new.value said.old said.new result }

@@ -1,10 +1,10 @@
 //! The calls on queries. They end as those on rows do.
-ghost use Rattle.std.specs.Prelude.{◌≡◌, [], IfSome, IsSome, Some, length};
+ghost use Rattle.std.specs.Prelude.{◌≡◌, [], IfSome, IsSome, Some, length, min};
 ghost use Rattle.prefq_c.specs.Acts.{Abandons, Begins, BeginsAll, Finishes, Scans, answer_numbers};
 ghost use Rattle.prefq_c.specs.Ends.{Ends};
 
 use crate::answer::end;
-use crate::ended::Ended;
+use crate::ended::{Ended, Refusal};
 use crate::handle::{Handle, freeze, take};
 use std::alloc::Global;
 
@@ -13,15 +13,15 @@ use std::alloc::Global;
 pub extern "C" fn prefq_table_begin(
     alloc: Global,
     handle: &mut Handle,
-    client: u8,
+    client: u32,
     text: &[u8],
-    said: &mut [u8],
+    said: &mut Refusal,
 ) -> Ended
     requires { IsSome handle.old.value }
-    ensures { IfSome handle.old.value (λ before. Ends (Begins client text.now before) handle.new.value said.old said.new result) }
+    ensures { IfSome handle.old.value (λ before. Ends (Begins (min client 255) text.now before) handle.new.value said.old said.new result) }
 {
     let mut table = take(alloc, handle);
-    let returned = table.begin(alloc, client, text);
+    let returned = table.begin(alloc, client.min(255) as u8, text);
     end(alloc, handle, table, returned, said)
 }
 
@@ -30,14 +30,14 @@ pub extern "C" fn prefq_table_begin(
 pub extern "C" fn prefq_table_begin_all(
     alloc: Global,
     handle: &mut Handle,
-    client: u8,
-    said: &mut [u8],
+    client: u32,
+    said: &mut Refusal,
 ) -> Ended
     requires { IsSome handle.old.value }
-    ensures { IfSome handle.old.value (λ before. Ends (BeginsAll client before) handle.new.value said.old said.new result) }
+    ensures { IfSome handle.old.value (λ before. Ends (BeginsAll (min client 255) before) handle.new.value said.old said.new result) }
 {
     let mut table = take(alloc, handle);
-    let returned = table.begin_all(alloc, client);
+    let returned = table.begin_all(alloc, client.min(255) as u8);
     end(alloc, handle, table, returned, said)
 }
 
@@ -46,14 +46,14 @@ pub extern "C" fn prefq_table_begin_all(
 pub extern "C" fn prefq_table_scan(
     alloc: Global,
     handle: &mut Handle,
-    client: u8,
-    said: &mut [u8],
+    client: u32,
+    said: &mut Refusal,
 ) -> Ended
     requires { IsSome handle.old.value }
-    ensures { IfSome handle.old.value (λ before. Ends (Scans client before) handle.new.value said.old said.new result) }
+    ensures { IfSome handle.old.value (λ before. Ends (Scans (min client 255) before) handle.new.value said.old said.new result) }
 {
     let mut table = take(alloc, handle);
-    let returned = table.scan(alloc, client);
+    let returned = table.scan(alloc, client.min(255) as u8);
     end(alloc, handle, table, returned, said)
 }
 
@@ -62,14 +62,14 @@ pub extern "C" fn prefq_table_scan(
 pub extern "C" fn prefq_table_finish(
     alloc: Global,
     handle: &mut Handle,
-    client: u8,
-    said: &mut [u8],
+    client: u32,
+    said: &mut Refusal,
 ) -> Ended
     requires { IsSome handle.old.value }
-    ensures { IfSome handle.old.value (λ before. Ends (Finishes client before) handle.new.value said.old said.new result) }
+    ensures { IfSome handle.old.value (λ before. Ends (Finishes (min client 255) before) handle.new.value said.old said.new result) }
 {
     let mut table = take(alloc, handle);
-    let returned = table.finish(alloc, client);
+    let returned = table.finish(alloc, client.min(255) as u8);
     end(alloc, handle, table, returned, said)
 }
 
@@ -90,13 +90,13 @@ pub extern "C" fn prefq_table_answer(alloc: Global, handle: &mut Handle, numbers
 pub extern "C" fn prefq_table_abandon(
     alloc: Global,
     handle: &mut Handle,
-    client: u8,
-    said: &mut [u8],
+    client: u32,
+    said: &mut Refusal,
 ) -> Ended
     requires { IsSome handle.old.value }
-    ensures { IfSome handle.old.value (λ before. Ends (Abandons client before) handle.new.value said.old said.new result) }
+    ensures { IfSome handle.old.value (λ before. Ends (Abandons (min client 255) before) handle.new.value said.old said.new result) }
 {
     let mut table = take(alloc, handle);
-    let returned = table.abandon(client);
+    let returned = table.abandon(client.min(255) as u8);
     end(alloc, handle, table, returned, said)
 }

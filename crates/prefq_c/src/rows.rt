@@ -1,6 +1,6 @@
 //! The calls on rows, which are acts of client 1.
 //!
-//! Each answers what was returned: the outcome 0 with the result, 1 with the refusal, or 2 where there was no memory. Then the table is ended, and the handle has
+//! Each answers what was returned: the outcome 0 with the result, -1 with the refusal, or -2 where there was no memory. Then the table is ended, and the handle has
 //! none.
 ghost use Rattle.std.specs.Prelude.{◌≡◌, ◌≤◌, IfSome, IsSome};
 ghost use Rattle.prefq_c.specs.Acts.{Commits, Deletes, Gets, Inserts, InsertsMany, TellsRoom, Updates, UpdatesFirst};
@@ -9,7 +9,7 @@ ghost use Rattle.prefq_c.specs.Ends.{Ends};
 
 use crate::answer::end;
 use crate::changes::Piece;
-use crate::ended::Ended;
+use crate::ended::{Ended, Refusal};
 use crate::handle::{Handle, take};
 use std::alloc::Global;
 
@@ -19,7 +19,7 @@ pub extern "C" fn prefq_table_insert(
     alloc: Global,
     handle: &mut Handle,
     numbers: &[i64],
-    said: &mut [u8],
+    said: &mut Refusal,
 ) -> Ended
     requires { IsSome handle.old.value }
     ensures { IfSome handle.old.value (λ before. Ends (Inserts numbers.now before) handle.new.value said.old said.new result) }
@@ -38,7 +38,7 @@ pub extern "C" fn prefq_table_insert_many(
     count: usize,
     width: usize,
     numbers: &[i64],
-    said: &mut [u8],
+    said: &mut Refusal,
 ) -> Ended
     requires some { IsSome handle.old.value }
     requires rows { count ≤ 65536 → width ≤ 16 → HaveRows width count numbers.now }
@@ -56,7 +56,7 @@ pub extern "C" fn prefq_table_update(
     handle: &mut Handle,
     id: u64,
     numbers: &[i64],
-    said: &mut [u8],
+    said: &mut Refusal,
 ) -> Ended
     requires { IsSome handle.old.value }
     ensures { IfSome handle.old.value (λ before. Ends (Updates id numbers.now before) handle.new.value said.old said.new result) }
@@ -72,7 +72,7 @@ pub extern "C" fn prefq_table_delete(
     alloc: Global,
     handle: &mut Handle,
     id: u64,
-    said: &mut [u8],
+    said: &mut Refusal,
 ) -> Ended
     requires { IsSome handle.old.value }
     ensures { IfSome handle.old.value (λ before. Ends (Deletes id before) handle.new.value said.old said.new result) }
@@ -89,7 +89,7 @@ pub extern "C" fn prefq_table_commit(
     handle: &mut Handle,
     width: usize,
     pieces: &[Piece],
-    said: &mut [u8],
+    said: &mut Refusal,
 ) -> Ended
     requires { IsSome handle.old.value }
     ensures { IfSome handle.old.value (λ before. Ends (Commits width pieces.now before) handle.new.value said.old said.new result) }
@@ -106,7 +106,7 @@ pub extern "C" fn prefq_table_update_first(
     handle: &mut Handle,
     width: usize,
     pieces: &[Piece],
-    said: &mut [u8],
+    said: &mut Refusal,
 ) -> Ended
     requires { IsSome handle.old.value }
     ensures { IfSome handle.old.value (λ before. Ends (UpdatesFirst width pieces.now before) handle.new.value said.old said.new result) }
@@ -123,7 +123,7 @@ pub extern "C" fn prefq_table_get(
     handle: &mut Handle,
     id: u64,
     numbers: &mut [i64],
-    said: &mut [u8],
+    said: &mut Refusal,
 ) -> Ended
     requires { IsSome handle.old.value }
     ensures { IfSome handle.old.value (λ before. Ends (Gets id numbers.old numbers.new before) handle.new.value said.old said.new result) }
@@ -135,7 +135,7 @@ pub extern "C" fn prefq_table_get(
 
 /// How many more versions there is room for.
 #[unsafe(no_mangle)]
-pub extern "C" fn prefq_table_room(alloc: Global, handle: &mut Handle, said: &mut [u8]) -> Ended
+pub extern "C" fn prefq_table_room(alloc: Global, handle: &mut Handle, said: &mut Refusal) -> Ended
     requires { IsSome handle.old.value }
     ensures { IfSome handle.old.value (λ before. Ends (TellsRoom before) handle.new.value said.old said.new result) }
 {

@@ -3,4 +3,4 @@ use Rattle.prefq_c.proofs.EndLaws.{ends}
 use Rattle.prefq_c.proofs.queries.prefq_table_finish.Goals as goal
 
 pub returns : goal.returns
-returns c = ends _ _ _ c.deref_mut.result.now _ _ _ _ _ (grind arith) c.finish-returned.ensures c.end.ensures
+returns c = ends _ _ _ c.deref_mut.result.now _ _ _ _ _ (grind arith) (rw c.min.ensures at c.finish-returned.ensures) c.end.ensures
