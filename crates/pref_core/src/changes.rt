@@ -190,6 +190,7 @@ fn twice(changes: &[Change]) -> Option<u64>
 }
 
 /// How many rows the changes begin.
+#[tactic(auto, using(std::proofs::lemmas::Grind::common_steps, crate::proofs::ChangesLaws::drop_item, crate::proofs::ChangesLaws::one_begins))]
 pub(crate) fn begun_by(changes: &[Change]) -> usize
     ensures { (next_id : ℕ) → result ≡ length (begun_by next_id changes.now) }
 {

@@ -200,6 +200,7 @@ impl Machine {
     ///     table.scan(alloc, 1)?;
     /// }
     /// ```
+    #[tactic(auto, using(std::proofs::lemmas::Grind::common_steps, crate::proofs::MachineActs::scan_does, std::proofs::lemmas::List::with_items_is))]
     pub fn scan(&mut self, alloc: Global, client: u8) -> Result<u32, CoreFault>
         ensures { Does self.old client Act.Scan (as_reply Reply.Left result) self.new }
     {
@@ -401,6 +402,7 @@ impl Machine {
     }
 
     /// A begin by its event, which a refusal hands back.
+    #[tactic(auto, using(std::proofs::lemmas::Grind::common_steps, crate::proofs::MachineActs::steps_does))]
     fn begin_event(&mut self, event: Event) -> Result<Reply, StepFault>
         requires { is_begin event.act ≡ true }
         ensures { Steps self.old event result self.new }

@@ -109,6 +109,7 @@ impl Contents {
     }
 
     /// Each row that the call sets is replaced where it stands.
+    #[tactic(auto, using(std::proofs::lemmas::Grind::common_steps, crate::proofs::ChangesLaws::drop_at, crate::proofs::ReplacedLaws::replaces_next, crate::proofs::ReplacedLaws::replaced_one, crate::proofs::ReplacedLaws::sets_row))]
     fn replace_rows(&mut self, op: &Planned<'_>)
         requires { KeepSlots self.old.stamp self.old.slots (changes_of op.now.call.now) op.now.slots }
         ensures { self.new ≡ with_slots (replaced self.old.stamp (changes_of op.now.call.now) op.now.slots self.old.slots) self.old }
@@ -151,6 +152,7 @@ impl Contents {
     }
 
     /// Ends the row of this id, where there is one.
+    #[tactic(auto, using(std::proofs::lemmas::Grind::common_steps, crate::proofs::SlotUseLaws::row_version, crate::proofs::UsesAfterQuery::use_few, std::proofs::lemmas::Option::slice_get_within))]
     fn end_row(&mut self, id: u64)
         ensures { self.new ≡ with_slots (map (close (id ∷ []) self.old.stamp) self.old.slots) self.old }
     {
@@ -164,6 +166,7 @@ impl Contents {
     }
 
     /// Begins all rows that the call begins, each in its slot; added ones get the ids from this one on.
+    #[tactic(auto, using(std::proofs::lemmas::Grind::common_steps, crate::proofs::FilledLaws::begun_all, std::proofs::lemmas::List::drop_all))]
     fn begin_rows(&mut self, first: u64, call: &LentCall<'_>, slots: &[u32])
         requires fits { is_some (filled (stamps self.old) self.old.stamp slots.now (begun first call.now) self.old.slots) ≡ true }
         requires fresh { AreFresh self.old.next_id (visible self.old.stamp self.old.slots) (begun first call.now) }
@@ -212,6 +215,7 @@ impl Contents {
     /// The client has made one call more. Where it ends a query, each ended version that it kept goes to another open
     /// query that needs it, or its slot is free.
     #[inline(always)]
+    #[tactic(auto, using(std::proofs::lemmas::Grind::common_steps, crate::proofs::UsesAfterQuery::callers_long, crate::proofs::UsesAfterQuery::seated))]
     fn count(&mut self, client: u8, call: &LentCall<'_>)
         requires { refusal_at self.old client call.now ≡ None }
         ensures { self.new ≡ record { slots = self.old.slots; stamp = self.old.stamp; next_id = self.old.next_id; callers = callers_after self.old.stamp self.old.callers client call.now } }

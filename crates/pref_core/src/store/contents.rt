@@ -134,6 +134,7 @@ impl Contents {
     }
 
     /// Whether the place of a row is no longer needed once that row, among others, has ended.
+    #[tactic(auto, using(std::proofs::lemmas::Grind::common_steps, crate::proofs::FreedLaws::frees_row))]
     pub(crate) fn frees(&self, place: u32) -> bool
         requires { self.now.stamp < 2 ^ 63 }
         ensures row { (ids : List ℕ) (id : ℕ) → among ids id ≡ true → row_at self.now.stamp id self.now.slots place ≡ true → result ≡ frees_at (begins self.now.callers) ids (self.now.stamp + 1) self.now.slots place }

@@ -93,7 +93,7 @@ impl IdChains {
     }
 
     /// The row of this id is about to end: takes it out of its chain, and returns its place.
-    #[tactic(auto, using(std::proofs::lemmas::Grind::common_steps, std::proofs::lemmas::Grind::get_or_default_zero, crate::proofs::IdChainsLaws::nowhere))]
+    #[tactic(auto, using(std::proofs::lemmas::Grind::common_steps, std::proofs::lemmas::Grind::get_or_default_zero, crate::proofs::IdChainsLaws::nowhere, crate::proofs::IdChainsLaws::within_at, crate::proofs::IdChainsLaws::row_shown))]
     pub(crate) fn take(&mut self, slots: &StampedSlots, id: u64) -> Option<u32>
         requires links { AreLinks (length slots.now.slots) (ids_of slots.now.stamp slots.now.slots) self.old }
         requires ids { AreIds (2 ^ 64) (id_at (ids_of slots.now.stamp slots.now.slots)) }
@@ -113,6 +113,7 @@ impl IdChains {
 
 /// The last home or place before this id on the chain of its home.
 #[inline(always)]
+#[tactic(auto, using(std::proofs::lemmas::Grind::common_steps, crate::proofs::IdChainsLaws::way_on, crate::proofs::IdChainsLaws::within_at))]
 fn before(next: &[u32], slots: &StampedSlots, id: u64) -> u32
     requires { AreLinks (length slots.now.slots) (ids_of slots.now.stamp slots.now.slots) next.now }
     ensures before { IsBefore (2 ^ 64) (length slots.now.slots) (home_of (length slots.now.slots)) (id_at (ids_of slots.now.stamp slots.now.slots)) (slice_index next.now) id result }

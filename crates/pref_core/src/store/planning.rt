@@ -68,7 +68,7 @@ impl Contents {
     }
 
     /// The slots that the rows which a call ends leave free, or the first id that it ends and the table lacks.
-    #[tactic(auto, using(crate::proofs::BoundsLaws::bounds))]
+    #[tactic(auto, using(std::proofs::lemmas::Grind::common_steps, crate::proofs::BoundsLaws::bounds, crate::proofs::FreedLaws::freed_all, crate::proofs::ChangesLaws::ended_first, std::proofs::lemmas::List::take_all))]
     pub(crate) fn freed_places(
         &self,
         index: Option<&Index>,
@@ -238,6 +238,7 @@ impl Contents {
     }
 
     /// The outcome of a call that gets a number, by the slots that its ended rows leave free.
+    #[tactic(auto, using(std::proofs::lemmas::Grind::common_steps, crate::proofs::ChosenSlots::outcome_missing))]
     pub(crate) fn outcome(&self, freed: &Result<SlotList, u64>, call: &LentCall<'_>) -> Outcome
         requires { FindsFreed self.now (ended call.now) freed.now }
         ensures { result ≡ outcome_at self.now call.now }

@@ -114,7 +114,7 @@ impl SlotSets {
 
     /// After the open query of a caller ended: each place that it kept goes to the next caller that needs it, or is
     /// free. Goes over these places alone.
-    #[tactic(auto, using(std::proofs::lemmas::Grind::common_steps, crate::proofs::UsesAfterQuery::sweep_begins, crate::proofs::UsesAfterQuery::swept, crate::proofs::UsesAfterQuery::use_few))]
+    #[tactic(auto, using(std::proofs::lemmas::Grind::common_steps, crate::proofs::UsesAfterQuery::sweep_begins, crate::proofs::UsesAfterQuery::swept, crate::proofs::UsesAfterQuery::use_few, std::proofs::lemmas::Option::slice_get_within, std::proofs::lemmas::List::Elements::length_all_zip))]
     pub(crate) fn sweep(&mut self, keeper: u8, slots: &[Option<Version>], callers: &[Caller])
         requires seats { (keeper < 8) × (length callers.now ≤ 8) }
         requires uses { AllZip (MayBecome keeper) self.old (map (use_of callers.now) slots.now) }
@@ -205,6 +205,7 @@ impl SlotSets {
     }
 
     /// A place goes up to the use behind its own.
+    #[tactic(auto, using(std::proofs::lemmas::Grind::common_steps, crate::proofs::SlotSetsLaws::bound_some, crate::proofs::SlotSetsLaws::raises))]
     fn raise(&mut self, place: u32, from: usize)
         requires there { slice_get self.old place ≡ Some (numbered from) }
         requires few { from < 9 }
@@ -246,6 +247,7 @@ fn move_to(order: &mut Vec<u32>, positions: &mut Vec<u32>, place: u32, to: u32)
 }
 
 /// The numbers below the capacity, from this one on round to it.
+#[tactic(auto, using(std::proofs::lemmas::Grind::common_steps))]
 fn rotated(alloc: Global, capacity: u32, first: u32) -> Result<Vec<u32>, AllocError>
     requires few { capacity ≤ 65536 }
     requires first { first ≤ capacity }

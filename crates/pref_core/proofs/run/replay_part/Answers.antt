@@ -22,18 +22,3 @@ loop-event-preserved c =
       count = ap length one.added ∙ one_each;
       rest = ap (λ l. l ++ replies_from c.args.setup (step c.args.setup inv.system event).next (drop (length (c.loop-event.yielded ++ event ∷ [])) c.args.events.items)) one.added ∙ more;
     }
-
-pub loop-event-init : goal.loop-event-init
-loop-event-init c = grind (arith, common_steps)
-
-pub returns-then-is_err-clause-replies : goal.returns-then-is_err-clause-replies
-returns-then-is_err-clause-replies c = grind (arith, common_steps)
-
-pub returns-clause-replies : goal.returns-clause-replies
-returns-clause-replies c = grind (arith, common_steps)
-
-pub returns-then-is_err-clause-stopped : goal.returns-then-is_err-clause-stopped
-returns-then-is_err-clause-stopped c =
-    let gives = c.into_iter-event-iterator.ensures.into_iter_gives in
-    let turn = YieldsList-turn (YieldsList-from_vec {s = c.into_iter-event-iterator.result} c.args.events.items gives.0 (gives.1 ∙ c.args.events.ok.0)) c.loop-event.yielded c.loop-event.event-iterator c.loop-event.yielded_by c.next.result c.next.new.self c.in-Some.event c.in-Some.is c.next.ensures.steps in
-    sym (event_is_left c.loop-event.returned.items c.reply-reply.result c.push_reply.result c.push_reply.new.returned.items c.loop-event.yielded c.args.events.items c.push_reply.ensures (sym c.is_err.ensures.value ∙ c.if-is_err.true) c.loop-event.invariant.count turn.0)

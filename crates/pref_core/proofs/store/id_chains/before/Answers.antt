@@ -22,6 +22,3 @@ along-preserved c =
     (subst (λ home. home < length slots.slots) c.home_of.ensures.home c.home_of.ensures.inside) c.along.invariant.way (sym c.is_above.ensures ∙ c.along-test.true)
     (within_at slots.stamp slots.slots) in
     record { way = step.0; inside = omega (arith, c.requires.long, step.1) }
-
-pub returns-clause-before : goal.returns-clause-before
-returns-clause-before c = record { way = c.along.invariant.way; last = sym c.is_above.ensures ∙ c.along-test.false }

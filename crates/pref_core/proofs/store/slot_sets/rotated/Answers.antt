@@ -12,6 +12,3 @@ loop-at-preserved c =
     ] in
     let pushed : c.push.new.self.items ≡ c.loop-at.numbers.items ++ c.if-at-back.number ∷ [] = search rules in
     pushed ∙ ap₂ (λ l n. l ++ n ∷ []) c.loop-at.invariant number ∙ sym (map-range_with_len_more (rotated c.args.capacity c.args.first) 0 c.loop-at.at c.loop-at.at (omega arith))
-
-pub returns : goal.returns
-returns c = let all : c.loop-at.at ≡ c.args.capacity = omega arith in c.loop-at.invariant ∙ ap (λ n. map (rotated c.args.capacity c.args.first) (range_with_len 0 n)) all

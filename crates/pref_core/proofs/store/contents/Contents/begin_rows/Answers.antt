@@ -62,11 +62,3 @@ loop-at-preserved c =
         | in_default w ↦ let same = w.used-is in omega arith
       ];
     }
-
-pub returns-clause-slots : goal.returns-clause-slots
-returns-clause-slots c =
-    let now = c.args.self.now in
-    let left = drop c.loop-at.used c.args.slots.now in
-    let all = filled (stamps now) now.stamp c.args.slots.now (begun c.args.first c.args.call.now) now.slots in
-    begun_all now c.loop-at.self left all
-    (subst (λ l. BegunUpTo now c.loop-at.self left (begun_by c.loop-at.next_id l) all) (drop_all c.loop-at.at (changes_of c.args.call.now) (omega arith)) c.loop-at.invariant.begun)

@@ -19,9 +19,6 @@ returns-in_default c =
     end_none _ now.places now.links c.args.id c.self.invariant (subst (IsPlaceOf now.slots.stamp c.args.id now.slots.slots) c.in_default.is c.take.ensures.place)
     ∙ ap (λ (s : Contents). with_slots (map (close (c.args.id ∷ []) s.stamp) s.slots) s) c.self.view_is
 
-pub end-requires : goal.end-requires
-end-requires c = inside (goal.at.end-requires c).In-Some
-
 pub bounds-slots-place : goal.bounds-slots-place
 bounds-slots-place c =
     let some = (goal.at.bounds-slots-place c).In-Some in
@@ -30,14 +27,11 @@ bounds-slots-place c =
     let long = length-set c.self.inside.slots.slots c.in-Some.place (Some (record (found some).0 { death = Some c.self.inside.slots.stamp })) in
     omega arith
 
-pub put-requires : goal.put-requires
-put-requires c =
+pub put-requires-clause-there : goal.put-requires-clause-there
+put-requires-clause-there c =
     let now = c.self.inside in
-    let some = (goal.at.put-requires c).In-Some in
-    record {
-      there = end_alive _ now.places now.links c.args.id c.in-Some.place (found some).0 c.self.invariant c.in-Some.ensures.place (found some).1;
-      few = (omega arith, subst (λ slot_use. number_of slot_use < 10) (sym c.use_of-next_use.ensures) (use_few _ _ (subst (λ callers. length callers ≤ 8) (sym c.deref.ensures.value) c.self.invariant.seats)));
-    }
+    let some = (goal.at.put-requires-clause-there c).In-Some in
+    end_alive _ now.places now.links c.args.id c.in-Some.place (found some).0 c.self.invariant c.in-Some.ensures.place (found some).1
 
 pub invariant_of-self-2 : goal.invariant_of-self-2
 invariant_of-self-2 c =

@@ -35,13 +35,6 @@ loop-at-preserved c =
           (subst (λ l. FreesUpTo now l freed) (sym (more ∙ ap (λ o. done ++ option_to_list o) w.in_default.is ∙ append-nil done)) c.loop-at.invariant)
     ]
 
-pub returns-clause-found : goal.returns-clause-found
-returns-clause-found c =
-    let now = c.args.self.now in
-    let call = c.args.call.now in
-    freed_all now c.requires.kept.state c.requires.kept.bounded c.requires.kept.stands (ended call) c.loop-at.freed
-    (subst (λ l. FreesUpTo now (ended_by l) c.loop-at.freed) (take_all c.loop-at.at (changes_of call) (omega arith)) c.loop-at.invariant)
-
 pub returns-in_default-place_of-clause-found : goal.returns-in_default-place_of-clause-found
 returns-in_default-place_of-clause-found c =
     let now = c.args.self.now in
@@ -49,12 +42,3 @@ returns-in_default-place_of-clause-found c =
     frees_missing now (ended_by changes) (ended_by (take c.loop-at.at changes)) (ended_by (drop (c.loop-at.at + 1) changes)) c.loop-at.freed c.in-Some.id
     (ended_next changes c.loop-at.at (change_of c.change.result) c.in-Some.id c.change.ensures (sym c.in-Some.ensures)) c.loop-at.invariant
     (subst (IsPlaceOf now.stamp c.in-Some.id now.slots) c.in_default-place_of.is c.place_of.ensures)
-
-pub push-requires : goal.push-requires
-push-requires c =
-    let few = c.loop-at.invariant.few in
-    let first = ended_first c.loop-at.at (changes_of c.args.call.now) in
-    let all = c.count-at-end.ensures.few in
-    let many = c.count-at-end.ensures.count in
-    let inside = c.loop-at-test.true in
-    omega arith

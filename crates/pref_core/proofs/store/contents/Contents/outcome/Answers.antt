@@ -3,10 +3,6 @@ use Rattle.pref_core.proofs.ChangesLaws.{begins_some}
 use Rattle.pref_core.proofs.ChosenSlots.{outcome_missing}
 use Rattle.pref_core.proofs.store.contents.Contents.outcome.Goals as goal
 
-pub returns-in-Err : goal.returns-in-Err
-returns-in-Err c =
-    sym (outcome_missing c.args.self.now c.args.call.now c.in-Err.id (sym c.is_change.ensures ∙ c.if-not-is_change.false) (subst (FindsFreed c.args.self.now (ended c.args.call.now)) c.in-Err.is c.requires))
-
 pub returns-then-needed-capacity : goal.returns-then-needed-capacity
 returns-then-needed-capacity c =
     let begins : begins_row c.args.call.now ≡ true = sym (begins_some 0 (changes_of c.args.call.now)) ∙ lt-ltb 0 _ (subst (λ n. 0 < n) (c.begun.ensures.count 0) c.if-begun-gt0.true) in

@@ -4,18 +4,6 @@ use Rattle.pref_core.proofs.ReplacedLaws.{ReplacesNext, ReplacedUpTo, replaces_n
 use Rattle.pref_core.proofs.store.contents.Contents.replace_rows.Goals.{In-Set, in-Set, in_default}
 use Rattle.pref_core.proofs.store.contents.Contents.replace_rows.Goals as goal
 
-abbrev all : In-Set → List (Option Version)
-all c = replaced c.args.self.now.stamp (changes_of c.args.op.now.call.now) c.args.op.now.slots c.args.self.now.slots
-
-next : (c : In-Set) → ReplacesNext c.loop-at.self (changes_of c.args.op.now.call.now) c.as_slice-slots.result.now c.loop-at.at c.in-Set.id c.in-Set.row.now (all c)
-next c = replaces_next c.args.self.now c.loop-at.self (changes_of c.args.op.now.call.now) c.as_slice-slots.result.now c.loop-at.at c.in-Set.id c.in-Set.row.now (all c) c.in-Set.ensures c.loop-at.invariant
-
-pub bounds-slots-at : goal.bounds-slots-at
-bounds-slots-at c = (next (goal.at.bounds-slots-at c).In-Set).inside
-
-pub replace-requires : goal.replace-requires
-replace-requires c = (next (goal.at.replace-requires c).In-Set).stands
-
 pub loop-at-preserved : goal.loop-at-preserved
 loop-at-preserved c =
     let start = c.args.self.now in

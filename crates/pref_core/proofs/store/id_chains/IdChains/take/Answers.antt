@@ -2,14 +2,6 @@ use Rattle.pref_core.proofs.Common.{length, sym, ap, subst, ◌∙◌, arith, ge
 use Rattle.pref_core.proofs.IdChainsLaws.{row_shown, links_removed, within_at}
 use Rattle.pref_core.proofs.store.id_chains.IdChains.take.Goals as goal
 
-pub index-requires : goal.index-requires
-index-requires c =
-    let slots = c.args.slots.now in
-    let links = subst (AreLinks (length slots.slots) (ids_of slots.stamp slots.slots)) (sym c.self.view_is) c.requires.links in
-    let room = within_at slots.stamp slots.slots c.index-place.result.now c.args.id
-    (row_shown slots.stamp c.args.id slots.slots c.index-place.result.now (sym c.stands_at.ensures ∙ c.if-not-stands_at.false)) in
-    grind (arith, common_steps, links.long, room)
-
 pub returns-clause-some : goal.returns-clause-some
 returns-clause-some c =
     let slots = c.args.slots.now in

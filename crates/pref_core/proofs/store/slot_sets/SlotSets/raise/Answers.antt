@@ -2,14 +2,6 @@ use Rattle.pref_core.proofs.Common.{◌≡◌, refl, ◌-◌, ◌<◌, ◌∙◌
 use Rattle.pref_core.proofs.SlotSetsLaws.{arranged_same, bound_some, raises}
 use Rattle.pref_core.proofs.store.slot_sets.SlotSets.raise.Goals as goal
 
-pub overflow_sub-last : goal.overflow_sub-last
-overflow_sub-last c = bound_some c.self.inside.order.items c.self.inside.positions.items c.self.inside.bounds c.args.place c.self.invariant c.args.from c.requires.few (ap (λ z. slice_get z c.args.place) c.self.view_is ∙ c.requires.there)
-
-pub move_to-requires : goal.move_to-requires
-move_to-requires c =
-    let step = raises c.self.inside.order.items c.self.inside.positions.items c.self.inside.bounds c.args.place c.self.invariant c.args.from c.requires.few (ap (λ z. slice_get z c.args.place) c.self.view_is ∙ c.requires.there) in
-    record { inverse = c.self.invariant.inverse; place = step.here; to = step.there }
-
 pub invariant_of-self : goal.invariant_of-self
 invariant_of-self c =
     let step = raises c.self.inside.order.items c.self.inside.positions.items c.self.inside.bounds c.args.place c.self.invariant c.args.from c.requires.few (ap (λ z. slice_get z c.args.place) c.self.view_is ∙ c.requires.there) in

@@ -3,13 +3,6 @@ use Rattle.std.proofs.lemmas.List.Elements.{length_all_zip}
 use Rattle.pref_core.proofs.UsesAfterQuery.{IsSweeping, sweep_goes, swept_all}
 use Rattle.pref_core.proofs.store.slot_sets.SlotSets.sweep.Goals as goal
 
-pub bounds-slots-place : goal.bounds-slots-place
-bounds-slots-place c =
-    let inside = slice_get_within c.loop-turn.self c.in-Some.place (Ended c.args.keeper) c.in-Some.ensures.found in
-    let long = length_all_zip (MayBecome c.args.keeper) _ _ c.loop-turn.invariant.may in
-    let same = length-map c.args.slots.now (use_of c.args.callers.now) in
-    omega arith
-
 pub loop-turn-preserved : goal.loop-turn-preserved
 loop-turn-preserved c =
     let after = map (use_of c.args.callers.now) c.args.slots.now in
