@@ -54,7 +54,6 @@ fn reply_to_refusal(fault: ShareFault) -> Result<Reply, ShareFault>
 
 /// The reply where the client's call is not refused. Most acts change one row, and are answered here. The others are
 /// answered out of line, since a function clears the room for the result of each of its calls, whichever act comes.
-#[tactic(auto, using(crate::proofs::ExitLaws::exits, crate::proofs::ActSteps::inserted, crate::proofs::ActSteps::updated, crate::proofs::ActSteps::deleted, crate::proofs::RefusalReplies::change_refused))]
 fn answer<J: BoardBrand, R: Wait>(
     rt: &R,
     alloc: Global,
