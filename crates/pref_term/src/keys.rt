@@ -132,7 +132,6 @@ fn is_ranked(keys: &[Key], key: &Key) -> bool
 }
 
 /// The keys without those that see no difference where the ones before them see none.
-#[tactic(auto, using(crate::proofs::ExtensionLaws::one_new, crate::proofs::ExtensionLaws::one_repeated))]
 fn without_repeats(alloc: Global, keys: Vec<Key>) -> Result<Vec<Key>, AllocError>
     ensures { IfOk result (λ kept. IsShortened keys.items kept.items) }
 {

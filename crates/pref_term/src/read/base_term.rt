@@ -112,7 +112,6 @@ fn numbers<'a>(alloc: Global, cursor: Cursor<'a>, close: Sign) -> Parsed<'a, Vec
 }
 
 /// Takes what follows `around`.
-#[tactic(auto, using(crate::proofs::LedLemmas::reads_around))]
 fn around<'a>(schema: &Schema, cursor: Cursor<'a>) -> Parsed<'a, Term>
     ensures parsed { led.Parses (led.ReadsBase schema.now reading.around_kind (ahead cursor.entry)) (led.FailsBase schema.now reading.around_kind (ahead cursor.entry)) result }
     ensures shorter { IfOk result (λ x. length (ahead x.1) < length (ahead cursor.entry)) }
@@ -124,7 +123,6 @@ fn around<'a>(schema: &Schema, cursor: Cursor<'a>) -> Parsed<'a, Term>
 }
 
 /// Takes what follows `between`. The right end of a range is no less than its left end.
-#[tactic(auto, using(crate::proofs::LedLemmas::reads_between))]
 fn between<'a>(schema: &Schema, cursor: Cursor<'a>) -> Parsed<'a, Term>
     ensures parsed { led.Parses (led.ReadsBase schema.now reading.between_kind (ahead cursor.entry)) (led.FailsBase schema.now reading.between_kind (ahead cursor.entry)) result }
     ensures shorter { IfOk result (λ x. length (ahead x.1) < length (ahead cursor.entry)) }
@@ -187,7 +185,6 @@ fn layered<'a>(alloc: Global, schema: &Schema, cursor: Cursor<'a>) -> Parsed<'a,
 }
 
 /// Takes a base term, whose word was taken. It is not `reverse`.
-#[tactic(auto, using(crate::proofs::CycleLemmas::reads_base))]
 pub(super) fn base_term<'a>(
     alloc: Global,
     schema: &Schema,
