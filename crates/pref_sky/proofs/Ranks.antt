@@ -8,8 +8,6 @@ use Rattle.pref_sky.proofs.ListLaws.{count_filtered, from_map, in_either, none_p
 use Rattle.pref_sky.proofs.Merges.{best_of_rest_is, comes_after_less, is_at}
 use Rattle.pref_sky.specs.Ranking.{leveled}
 
--- ---- which they are
-
 -- where a chain of the cut stands over an entry, so many levels are above it
 count_at_cut : {E : Type 0} (over : E → E → Bool) (all : List E) (cut : ℕ) (e : E) → comes_after over all cut e ≡ true → count_above over all cut e ≡ cut
 count_at_cut over all zero e after = refl

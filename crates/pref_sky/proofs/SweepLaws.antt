@@ -1,7 +1,7 @@
 -- One pass over entries in order: the class of the next entry, how many levels are above it, and what is known behind it.
 use Rattle.pref_sky.proofs.Common.{◌≡◌, ℕ, suc, ◌<◌, ◌≤◌, ◌+◌, ◌-◌, Bool, true, false, not, inl, inr, List, [], ◌∷◌, ◌++◌, refl, sym, ◌∙◌, ap, subst, arith, length, get_or, set}
 use Rattle.pref_sky.proofs.Common.{OwnOrder, own_order, and_from, cases_eq, cases_lt, false_from_ne_true, get_or-set_same, get_or-set_other, length-set, length_push}
-use Rattle.pref_sky.proofs.Common.{get_or_push, get_or_append_left, comes_after, Entry, entry_at, IsChain, StandAlike, are_level, comes_first, in_turn}
+use Rattle.pref_sky.proofs.Common.{get_or_push, get_or_append_left, comes_after, Entry, entry_at, IsChain, StandAlike, comes_first, in_turn}
 use Rattle.pref_sky.proofs.ChainLaws.{chain_in_turn, level_above}
 use Rattle.pref_sky.proofs.LeveledLaws.{only_level}
 use Rattle.pref_sky.proofs.ListLaws.{among_place}
@@ -16,17 +16,10 @@ use Rattle.pref_sky.specs.declared.sweep.Sweep.{Sweep}
 -- ---- alike entries
 
 -- they have the same above them
-alike_after : {E : Type 0} (over : E → E → Bool) (all : List E) (a b : E) → StandAlike over a b → (n : ℕ) → comes_after over all n a ≡ comes_after over all n b
-alike_after over all a b alike n = grind (arith)
-
 pub above_alike : {E : Type 0} (over : E → E → Bool) (cut : ℕ) (all : List E) (a b : E) (n : ℕ) → StandAlike over a b → AreAbove over cut all a n → AreAbove over cut all b n
-above_alike over cut all a b n alike above = grind (arith, alike_after over all a b alike n, alike_after over all a b alike (suc n), above.within, above.after, above.no_more)
+above_alike over cut all a b n alike above = grind (arith, above.within, above.after, above.no_more)
 
 -- ---- classes: entries that are level in three chains
-
--- those that are level in all three are level in their order
-level_in_order : {E : Type 0} (first second third : E → E → Bool) (a b : E) → are_level_in first second third a b ≡ are_level (comes_first first second third) a b
-level_in_order first second third a b = grind arith
 
 module _ {over first second third : Entry → Entry → Bool} {all : List Entry} (swept : AreSwept over first second third all) where
   abbrev order : Entry → Entry → Bool
@@ -38,12 +31,12 @@ module _ {over first second third : Entry → Entry → Bool} {all : List Entry}
   -- an entry that is level with the one before it is of its class
   pub class_goes_on : (class i : ℕ) → 0 < i → IsClass first second third all class (i - 1) → are_level_in first second third (entry_at all (i - 1)) (entry_at all i) ≡ true → IsClass first second third all class i
   class_goes_on class i some is same =
-      grind (arith, is.begins, is.apart, level_in_order first second third (entry_at all (i - 1)) (entry_at all i), level_above order order_chain (entry_at all (i - 1)) (entry_at all i))
+      grind (arith, is.begins, is.apart, level_above order order_chain (entry_at all (i - 1)) (entry_at all i))
 
   -- another begins a class: what does not come behind the one before it comes before it too
   pub class_begins : (i : ℕ) → i < length all → (0 < i → are_level_in first second third (entry_at all (i - 1)) (entry_at all i) ≡ false) → IsClass first second third all i i
   class_begins i inside apart =
-      grind (arith, level_in_order first second third (entry_at all (i - 1)) (entry_at all i), swept.in_lead, order_chain.between (entry_at all (i - 1)))
+      grind (arith, swept.in_lead, order_chain.between (entry_at all (i - 1)))
 
 -- what stands for members is inside
 pub are_places : {over second third : Entry → Entry → Bool} {rule : Entry → ℕ} {mark : ℕ → ℕ} {all : List Entry} {class i n : ℕ} {kept : Level} → i < length all → StandsFor over second third rule mark all class i n kept → ArePlaces all kept
