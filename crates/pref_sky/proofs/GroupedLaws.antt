@@ -2,17 +2,16 @@
 use Rattle.pref_sky.proofs.Common.{◌≡◌, ℕ, suc, ◌+◌, ◌<◌, ◌≤◌, Bool, true, false, not, ◌&&◌, cond, List, length, get_or, sym, ap, arith, cases_Bool, inl, inr, leb, ltb, nat_tests, count_by, count_before, IsPermutation}
 use Rattle.pref_sky.proofs.Common.{[], ◌∙◌, get_or-map, length-map, ◌-◌, sum_by-IsPermutation, Ranked, in_same_group, IsChain, IsInOrder, are_level}
 use Rattle.pref_sky.proofs.AtLeastLaws.{place_passes}
-use Rattle.pref_sky.proofs.ChainLaws.{earlier_chain, same_group}
+use Rattle.pref_sky.proofs.ChainLaws.{earlier_chain, in_weaker_order, level_above, same_group}
 use Rattle.pref_sky.proofs.ListLaws.{count_split, in_order_at, parted_by_entry}
-use Rattle.pref_sky.proofs.ChainLaws.{in_weaker_order, level_above}
 use Rattle.pref_sky.proofs.Common.{◌∷◌, ℤ, cell, in_turn, int_lt}
 use Rattle.std.proofs.lemmas.Int.{ints}
 use Rattle.pref_term.proofs.KeyLaws.{key_law}
 use Rattle.pref_term.specs.Preference.{low}
+use Rattle.pref_sky.specs.Chains.{earlier_in}
 use Rattle.pref_sky.specs.Grouped.{IsCounted, entries, stands_before, entry_at, has_earlier_group}
 use Rattle.pref_sky.specs.declared.grouped.InFront.{InFront}
 use Rattle.pref_sky.specs.declared.grouped.Placed.{Placed}
-use Rattle.pref_sky.specs.Chains.{earlier_in}
 
 -- of columns the first decides where the cells differ
 pub by_first_column : (col : ℕ) (columns : List ℕ) (a b : List ℤ) → earlier_in (col ∷ columns) a b ≡ in_turn (λ x y. int_lt (cell x col) (cell y col)) (earlier_in columns) a b

@@ -6,6 +6,7 @@ use Rattle.pref_sky.proofs.Common.{order_of, order_of_stays_in_groups, own_order
 use Rattle.pref_sky.proofs.ChainLaws.{earlier_chain, keys_chain, same_group, same_in}
 use Rattle.pref_sky.proofs.ListLaws.{among_place}
 use Rattle.pref_sky.proofs.OwnOrders.{own_is_strict, stands_behind}
+use Rattle.pref_sky.specs.Chains.{earlier_in}
 use Rattle.pref_sky.specs.ChosenChains.{SayTheSame}
 use Rattle.pref_sky.specs.Leads.{AreSigned, LeadsSweep, chain_at, chains_of, first_of, mark_of, second_of, third_of}
 use Rattle.pref_sky.specs.Held.{AreHeld}
@@ -23,7 +24,6 @@ use Rattle.pref_term.specs.RelationLaws.{product-same}
 use Rattle.pref_term.specs.Signatures.{IsBy}
 use Rattle.pref_term.specs.TwinLaws.{twins_alike}
 use Rattle.pref_term.specs.declared.key.Key.{Key}
-use Rattle.pref_sky.specs.Chains.{earlier_in}
 
 -- ---- chains that lead some entries
 
@@ -39,20 +39,7 @@ pub record LeadAmong (q : Question) (entries : List Entry) (chains : List (List 
 same_in_keys : (q : Question) (entries : List Entry) (chains : List (List Key)) → LeadAmong q entries chains → (a b : Entry) → Among a entries → Among b entries → is_same (by_chain (ask_keys q) a.row b.row) ≡ true
     → (in_same_group q.group a.row b.row && is_same (by_product chains a.row b.row)) ≡ true
 same_in_keys q entries chains leads a b m n h =
-    grind (
-      arith,
-      h,
-      ask_same q a.row b.row,
-      group_back q.group a.row b.row,
-      chain_back (ask_keys q) a.row b.row,
-      chain_back (ask_keys q) b.row a.row,
-      leads.in_order a b m n,
-      leads.in_order b a n m,
-      chain_back (joined chains) a.row b.row,
-      chain_back (joined chains) b.row a.row,
-      chain_decided (joined chains) a.row b.row,
-      same_joined chains a.row b.row,
-    )
+    grind (arith, h, ask_same q a.row b.row, group_back q.group a.row b.row, chain_back (ask_keys q) b.row a.row, leads.in_order a b m n, leads.in_order b a n m, chain_back (joined chains) b.row a.row, chain_decided (joined chains) a.row b.row, same_joined chains a.row b.row)
 
 -- ---- the law
 
@@ -100,11 +87,7 @@ module _ (order : OwnOrder) (lead : Lead) where
 
     -- the earlier group comes first, and within a group what does so in the chains one after the other
     first_is : (a b : Entry) → comes_first (first_of order lead) (second_of order lead) (third_of order lead) a b ≡ in_turn (earlier_in q.group) (better_in (joined (chains_of lead))) a.row b.row
-    first_is a b =
-        sym (
-        ap (λ r. earlier_in q.group a.row b.row || (are_level (earlier_in q.group) a.row b.row && is_better r)) (three_say (chains_of lead) a.row b.row few).1
-        ∙ grind (arith, same_in (chain 0) a.row b.row, same_in (chain 1) a.row b.row)
-        )
+    first_is a b = grind (arith, (three_say (chains_of lead) a.row b.row few).1, same_in (chain 0) a.row b.row, same_in (chain 1) a.row b.row)
 
     -- what is no better in the question's keys does not come first
     no_first : (a b : Entry) → Among a entries → Among b entries → better_in (ask_keys q) b.row a.row ≡ false → comes_first (first_of order lead) (second_of order lead) (third_of order lead) b a ≡ false
@@ -160,4 +143,4 @@ module _ (order : OwnOrder) (lead : Lead) where
 
 -- where equal rows are all kept, entries that are the same in all keys are alike
 pub alike_entries : (order : OwnOrder) (a b : Entry) → order.ask.distinct ≡ false → is_same (by_chain (ask_keys order.ask) a.row b.row) ≡ true → StandAlike (own_order order) a b
-alike_entries order a b kept h = let alike = ask_alike order.ask a.row b.row h in record { above = λ c. grind (arith, kept, alike.above c.row); below = λ c. grind (arith, kept, alike.below c.row) }
+alike_entries order a b kept h = grind (arith, kept, ask_alike order.ask a.row b.row h)
