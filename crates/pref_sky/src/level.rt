@@ -189,13 +189,15 @@ impl Level {
         count > 0 && order.is_over(&entries[self.steps[count - 1]], entry)
     }
 
-    /// Whether one of the class dominates the entry at a place. Of those that were held already none does where that entry was held too, of
-    /// this level or of one above: then they are not asked.
+    /// Whether one that is kept dominates the entry at a place, which is of this class. Of those that were held already none does where that
+    /// entry was held too, of this level or of one above: then they are not asked.
+    #[inline(always)]
     fn has_kept_over(
         &mut self,
         order: &OwnOrder,
         lead: &Lead,
         entries: &[Entry],
+        class: usize,
         place: usize,
         signature: u64,
     ) -> bool
@@ -203,12 +205,13 @@ impl Level {
         requires places { ArePlaces entries.now self.old }
         ensures same { IsSameLevel self.old self.new }
         ensures found { result ≡ true → (x : Item) × IsKept x self.old × (own_order order.now (entry_at entries.now x.place) (entry_at entries.now place) ≡ true) }
-        ensures none { result ≡ false → (x : Item) → IsAskedOf (mark_of lead.now place) x self.old
+        ensures none { result ≡ false → self.old.class ≡ class → (x : Item) → IsAskedOf (mark_of lead.now place) x self.old
             → (is_within x.signature signature && own_order order.now (entry_at entries.now x.place) (entry_at entries.now place)) ≡ false }
     {
-        has_one_over(order, entries, &mut self.fresh, place, signature)
-            || (lead.held_level(place) == 0
-                && has_one_over(order, entries, &mut self.run, place, signature))
+        self.class == class
+            && (has_one_over(order, entries, &mut self.fresh, place, signature)
+                || (lead.held_level(place) == 0
+                    && has_one_over(order, entries, &mut self.run, place, signature)))
     }
 
     /// Whether an entry of this level dominates the one at a place behind them, which is of this class. Where that one was held already, this is
@@ -236,7 +239,7 @@ impl Level {
     {
         let entry = &entries[place];
         self.has_step_over(order, lead, entries, entry)
-            || (self.class == class && self.has_kept_over(order, lead, entries, place, signature))
+            || self.has_kept_over(order, lead, entries, class, place, signature)
     }
 
     /// Begins a class, unless it is this one already.

@@ -3,7 +3,6 @@ use Rattle.pref_sky.proofs.StepLaws.{found_one, found_step, none_kept, none_over
 use Rattle.pref_sky.specs.Leads.{mark_of, rule_of, second_of}
 use Rattle.pref_sky.specs.Steps.{IsAsked}
 use Rattle.pref_term.specs.Signatures.{is_within}
-use Rattle.std.proofs.lemmas.Bool.{ne_eqb}
 use Rattle.pref_sky.proofs.level.Level.dominates.Goals.{After-has_step_over}
 use Rattle.pref_sky.proofs.level.Level.dominates.Goals as goal
 
@@ -20,30 +19,23 @@ returns-then-has_step_over-clause-dominated c sweeps of_class n stands near =
     let found = c.if-has_step_over.true in
     found ∙ sym (found_step _ _ _ _ c.args.entries.now sweeps.swept (rule_of c.args.lead.now) _ c.args.class c.args.place n c.args.self.now stands c.requires.inside c.has_step_over.result w found)
 
-pub returns-then-self-class-clause-dominated : goal.returns-then-self-class-clause-dominated
-returns-then-self-class-clause-dominated c sweeps of_class n stands near =
+pub returns-else-has_step_over-clause-dominated : goal.returns-else-has_step_over-clause-dominated
+returns-else-has_step_over-clause-dominated c sweeps of_class n stands near =
     let over = own_order c.args.order.now in
     let all = c.args.entries.now in
     let rule = rule_of c.args.lead.now in
     let mark = mark_of c.args.lead.now in
     let e = entry_at all c.args.place in
     let kept = c.args.self.now in
-    let at = (goal.at.returns-then-self-class-clause-dominated c).After-has_step_over in
+    let at = (goal.at.returns-else-has_step_over-clause-dominated c).After-has_step_over in
     let w = asked at in
     elim (cases_Bool c.has_kept_over.result) [
       | inl found ↦
           let x = c.has_kept_over.ensures.found found in
           found ∙ sym (found_one over _ _ _ all sweeps.swept rule mark c.args.class c.args.place n kept stands c.requires.inside x.0 x.1 x.2)
       | inr none ↦
-          let unasked = none_kept over _ _ _ all sweeps.swept rule mark c.args.class c.args.place n kept stands c.requires.inside sweeps.signed of_class sweeps.held near
-          (λ x m. ap (λ (s : ℕ). is_within x.signature s && over (entry_at all x.place) e) (sym c.requires.signature) ∙ c.has_kept_over.ensures.none none x m) in
           none
-          ∙ sym (none_over over _ _ _ all sweeps.swept rule mark c.args.class c.args.place n kept stands c.requires.inside sweeps.signed of_class c.has_step_over.result w c.if-has_step_over.false (λ same. unasked))
+          ∙ sym (none_over over _ _ _ all sweeps.swept rule mark c.args.class c.args.place n kept stands c.requires.inside sweeps.signed of_class c.has_step_over.result w c.if-has_step_over.false
+          (λ same. none_kept over _ _ _ all sweeps.swept rule mark c.args.class c.args.place n kept stands c.requires.inside sweeps.signed of_class sweeps.held near
+          (λ x m. ap (λ (s : ℕ). is_within x.signature s && over (entry_at all x.place) e) (sym c.requires.signature) ∙ c.has_kept_over.ensures.none none same x m)))
     ]
-
-pub returns-else-self-class-clause-dominated : goal.returns-else-self-class-clause-dominated
-returns-else-self-class-clause-dominated c sweeps of_class n stands near =
-    let w = asked ((goal.at.returns-else-self-class-clause-dominated c).After-has_step_over) in
-    ne_eqb c.args.self.now.class c.args.class c.if-self-class.false
-    ∙ sym (none_over _ _ _ _ c.args.entries.now sweeps.swept (rule_of c.args.lead.now) _ c.args.class c.args.place n c.args.self.now stands c.requires.inside sweeps.signed of_class
-    c.has_step_over.result w c.if-has_step_over.false (λ same x m. absurd (c.if-self-class.false same)))
