@@ -1,6 +1,6 @@
 -- No public contract cites this.
 -- How the steps of a level in a sweep stand to an entry, as far as searches by halves tell, and where one more is put.
-use Rattle.std.specs.Prelude.{◌≡◌, ◌<◌, ◌≤◌, ◌-◌, ◌++◌, ◌∷◌, get_or, Bool, not, ◌&&◌, true, false, ℕ, List, drop, length, take}
+use Rattle.std.specs.Prelude.{◌≡◌, ◌<◌, ◌≤◌, ◌-◌, ◌++◌, ◌∷◌, cond, get_or, Bool, not, ◌&&◌, true, false, ℕ, List, drop, length, take}
 use Rattle.pref_sky.specs.Items.{entry_at}
 use Rattle.pref_sky.specs.Members.{Among}
 use Rattle.pref_sky.specs.declared.entry.Entry.{Entry}
@@ -21,23 +21,20 @@ stands_before second third all p q = not (second (entry_at all q) (entry_at all 
 abbrev pub IsCovered : (Entry → Entry → Bool) → (Entry → Entry → Bool) → List Entry → List ℕ → Entry → Type 0
 IsCovered second third all steps e = (p : ℕ) × Among p steps × (covers second third (entry_at all p) e ≡ true)
 
+-- a step is better than an entry in the second chain, or also level with it
+abbrev pub is_before : (Entry → Entry → Bool) → List Entry → Entry → (or_level : Bool) → ℕ → Bool
+is_before second all e or_level p = cond or_level (not (second e (entry_at all p))) (second (entry_at all p) e)
+
 -- so many steps pass a test, as far as the last of them and the next one tell
 pub record IsCut (passes : ℕ → Bool) (steps : List ℕ) (count : ℕ) : Type 0 where
   pub within : count ≤ length steps
   pub last : 0 < count → passes (get_or steps (count - 1) 0) ≡ true
   pub next : count < length steps → passes (get_or steps count 0) ≡ false
 
--- those that are better than an entry in the second chain, and those that are no worse
-abbrev pub AreBetter : (Entry → Entry → Bool) → List Entry → List ℕ → Entry → ℕ → Type 0
-AreBetter second all steps e = IsCut (λ p. second (entry_at all p) e) steps
-
-abbrev pub AreNoWorse : (Entry → Entry → Bool) → List Entry → List ℕ → Entry → ℕ → Type 0
-AreNoWorse second all steps e = IsCut (λ p. not (second e (entry_at all p))) steps
-
 -- the answer whether a step is over the entry: where it is true one is, and where it is false the last one that is no worse is not
 pub record IsAsked (over second : Entry → Entry → Bool) (all : List Entry) (steps : List ℕ) (e : Entry) (answer : Bool) : Type 0 where
   pub found : answer ≡ true → (k : ℕ) × (k < length steps) × (over (step_at all steps k) e ≡ true)
-  pub none : answer ≡ false → (count : ℕ) × AreNoWorse second all steps e count × (0 < count → over (step_at all steps (count - 1)) e ≡ false)
+  pub none : answer ≡ false → (count : ℕ) × IsCut (is_before second all e true) steps count × (0 < count → over (step_at all steps (count - 1)) e ≡ false)
 
 -- from a place up to another none is better than it in the third chain, and the next one is
 pub record AreNoBetter (third : Entry → Entry → Bool) (all : List Entry) (steps : List ℕ) (e : Entry) (from to : ℕ) : Type 0 where
@@ -50,6 +47,6 @@ pub record AreNoBetter (third : Entry → Entry → Bool) (all : List Entry) (st
 pub record IsStepPut (second third : Entry → Entry → Bool) (all : List Entry) (old : List ℕ) (place : ℕ) (new : List ℕ) : Type 0 where
   pub from : ℕ
   pub to : ℕ
-  pub better : AreBetter second all old (entry_at all place) from
+  pub better : IsCut (is_before second all (entry_at all place) false) old from
   pub taken_out : AreNoBetter third all old (entry_at all place) from to
   pub is : new ≡ take from old ++ place ∷ drop to old

@@ -16,7 +16,7 @@ ghost use Rattle.pref_sky.specs.OwnOrders.{comes_after, own_order};
 ghost use Rattle.pref_sky.specs.Items.{entry_at};
 ghost use Rattle.pref_sky.specs.Leads.{IsClassBy, LeadsSweep, StandsBy, mark_of, rule_of, second_of, third_of};
 ghost use Rattle.pref_sky.specs.Members.{Among, SameMembers};
-ghost use Rattle.pref_sky.specs.Steps.{AreBetter, AreNoBetter, AreNoWorse, IsAsked, IsStepPut};
+ghost use Rattle.pref_sky.specs.Steps.{AreNoBetter, IsAsked, IsCut, IsStepPut, is_before};
 ghost use Rattle.pref_sky.specs.Sweep.{ArePlaces, IsAskedOf, IsKept, IsMember, IsOfClass, IsOneMore, IsSameLevel, StandsFor, is_at};
 ghost use Rattle.pref_sky.specs.declared.entry.Entry.{Entry};
 ghost use Rattle.pref_sky.specs.declared.item.Item.{Item};
@@ -44,22 +44,30 @@ pub(crate) struct Level {
     pub(crate) class: usize,
 }
 
-/// How many steps are better than an entry in the second chain: they are the first ones. A search by halves.
-fn count_better(
+/// How many steps are better than an entry in the second chain, or also level with it: they are the first ones. A search by halves.
+#[inline(always)]
+fn count_before(
     order: &OwnOrder,
     lead: &Lead,
     entries: &[Entry],
     steps: &[usize],
     entry: &Entry,
+    or_level: bool,
 ) -> usize
     requires { All (λ place. place < length entries.now) steps.now }
-    ensures { AreBetter (second_of order.now lead.now) entries.now steps.now entry.now result }
+    ensures { IsCut (is_before (second_of order.now lead.now) entries.now entry.now or_level) steps.now result }
 {
     let mut low = 0;
     let mut high = steps.len();
     'halves: while low < high {
         let middle = low + (high - low) / 2;
-        if lead.is_better_in(order, SECOND, &entries[steps[middle]], entry) {
+        let step = &entries[steps[middle]];
+        let passes = if or_level {
+            !lead.is_better_in(order, SECOND, entry, step)
+        } else {
+            lead.is_better_in(order, SECOND, step, entry)
+        };
+        if passes {
             low = middle + 1;
         } else {
             high = middle;
@@ -102,7 +110,7 @@ fn put_step(
     ensures { OnOk result (IsStepPut (second_of order.now lead.now) (third_of order.now lead.now) entries.now steps.old.items place steps.new.items) }
 {
     let entry = &entries[place];
-    let from = count_better(order, lead, entries, steps, entry);
+    let from = count_before(order, lead, entries, steps, entry, false);
     let to = end_of_no_better(order, lead, entries, steps, entry, from);
     if from == to {
         steps.insert(from, place)?;
@@ -152,30 +160,6 @@ impl Level {
         }
     }
 
-    /// How many steps are no worse than an entry in the second chain: they are the first ones. A search by halves.
-    fn count_no_worse(
-        &self,
-        order: &OwnOrder,
-        lead: &Lead,
-        entries: &[Entry],
-        entry: &Entry,
-    ) -> usize
-        requires { All (λ place. place < length entries.now) self.now.steps.items }
-        ensures { AreNoWorse (second_of order.now lead.now) entries.now self.now.steps.items entry.now result }
-    {
-        let mut low = 0;
-        let mut high = self.steps.len();
-        'halves: while low < high {
-            let middle = low + (high - low) / 2;
-            if lead.is_better_in(order, SECOND, entry, &entries[self.steps[middle]]) {
-                high = middle;
-            } else {
-                low = middle + 1;
-            }
-        }
-        low
-    }
-
     /// Whether a step dominates an entry that comes later: the last one that is no worse in the second chain stands for all. Where there is
     /// one step, as with one or two chains, it is asked at once.
     fn has_step_over(&self, order: &OwnOrder, lead: &Lead, entries: &[Entry], entry: &Entry) -> bool
@@ -185,7 +169,7 @@ impl Level {
         if self.steps.len() == 1 {
             return order.is_over(&entries[self.steps[0]], entry);
         }
-        let count = self.count_no_worse(order, lead, entries, entry);
+        let count = count_before(order, lead, entries, &self.steps, entry, true);
         count > 0 && order.is_over(&entries[self.steps[count - 1]], entry)
     }
 
