@@ -1,5 +1,5 @@
 -- What is kept of a level in a sweep: its steps and its run tell whether an entry of the level dominates the next entry, and how they stand for one entry more.
-use Rattle.pref_sky.proofs.Common.{◌≡◌, ℕ, suc, zero, ◌<◌, ◌≤◌, ◌+◌, ◌-◌, Bool, true, false, not, ◌&&◌, ◌||◌, ◌⊎◌, inl, inr, List, [], ◌∷◌, ◌++◌, refl, sym, ◌∙◌, ap, arith, filter, length, get_or, take, drop}
+use Rattle.pref_sky.proofs.Common.{◌≡◌, ℕ, suc, zero, ◌<◌, ◌≤◌, ◌+◌, ◌-◌, Bool, true, false, not, ◌&&◌, ◌||◌, ◌⊎◌, inl, inr, List, [], ◌∷◌, ◌++◌, refl, subst, sym, ◌∙◌, ap, arith, filter, length, get_or, take, drop}
 use Rattle.pref_sky.proofs.Common.{Global, Vec, both_ways, cases_Bool, cases_eq, false_from_ne_true, Entry, entry_at, Item, Among, StandAlike, IsChain, IsInOrder}
 use Rattle.pref_sky.proofs.ChainLaws.{level_above, level_below}
 use Rattle.pref_sky.proofs.ListLaws.{among_place, any_from, from_filter, in_filter, in_order_at, in_order_joined, place_of, in_either, in_left, in_right}
@@ -243,11 +243,8 @@ module _ (over first second third : Entry → Entry → Bool) (all : List Entry)
         (last.0, grind (arith, found, ahead_is_over place i (step_inside place there) inside, members_are_apart i n j place member (omega (arith, inside)) (stands.steps_within place there).1, ahead_is_over j place (omega (arith, member.0, inside)) (step_inside place there)))
 
     -- what is found is over the next entry
-    pub found_step : (answer : Bool) → IsAsked over second all steps next_one answer → answer ≡ true → comes_after over all (suc n) next_one ≡ true
-    found_step answer asked found = let w = asked.found found in over_by_member i n (get_or steps w.0 0) i (stands.steps_within (get_or steps w.0 0) (among_place steps w.0 0 w.1)) (omega (arith, inside)) w.2
-
-    pub found_one : (x : Item) → IsKept x kept → over (entry_at all x.place) next_one ≡ true → comes_after over all (suc n) next_one ≡ true
-    found_one x m above = over_by_member i n x.place i (stands.kept_within x m).0 (omega (arith, inside)) above
+    pub found_step : (e : Entry) (answer : Bool) → e ≡ next_one → IsAsked over second all steps e answer → answer ≡ true → comes_after over all (suc n) next_one ≡ true
+    found_step e answer here asked found = let w = asked.found found in over_by_member i n (get_or steps w.0 0) i (stands.steps_within (get_or steps w.0 0) (among_place steps w.0 0 w.1)) (omega (arith, inside)) (ap (over (step_at all steps w.0)) (sym here) ∙ w.2)
 
     -- and something is found where a member is over it
     module _ (signed : (a b : Entry) → Among a all → Among b all → are_level_in first second third a b ≡ true → over a b ≡ true → is_within (rule a) (rule b) ≡ true)
@@ -281,13 +278,13 @@ module _ (over first second third : Entry → Entry → Bool) (all : List Entry)
       none_kept held near none x m = grind (arith, none x, stands.kept_within x m, stands.run_held x, held.apart i x.place)
 
       -- where neither the last step that is no worse nor one that is kept in the class is over it, none is
-      pub none_over : (answer : Bool) → IsAsked over second all steps next_one answer → answer ≡ false
+      pub none_over : (e : Entry) (answer : Bool) → e ≡ next_one → IsAsked over second all steps e answer → answer ≡ false
           → (kept.class ≡ class → (x : Item) → IsKept x kept → is_over x ≡ false) → comes_after over all (suc n) next_one ≡ false
-      none_over answer asked no_step no_one =
+      none_over e answer here asked no_step no_one =
           false_from_ne_true (comes_after over all (suc n) next_one) (λ late.
           let w = member_over i n inside late in
           let decided = swept.led.decided (entry_at all w.0) next_one (among w.0 (omega (arith, w.1.0, inside))) (among i inside) w.2 in
-          let last = asked.none no_step in
+          let last = (subst (λ a. IsAsked over second all steps a answer) here asked).none no_step in
           grind (arith, decided, step_over w.0 last.0 last.1 w.1, last.2, one_over w.0 w.1 w.2, no_one))
 
     -- ---- how they stand once it is put there
