@@ -118,11 +118,7 @@ cut_by p (x ∷ xs) (suc n) pass fail =
 
 in_order_filtered : {E : Type 0} (le : E → E → Bool) (p : E → Bool) (xs : List E) → IsInOrder le xs → IsInOrder le (filter p xs)
 in_order_filtered le p [] ordered = ordered
-in_order_filtered le p (x ∷ xs) ordered =
-    elim (cases_Bool (p x)) [
-      | inl kept ↦ rw kept ((λ y m. ordered.0 y (from_filter p xs y m).0), in_order_filtered le p xs ordered.1)
-      | inr left ↦ rw left (in_order_filtered le p xs ordered.1)
-    ]
+in_order_filtered le p (x ∷ xs) ordered = grind (arith, from_filter p xs, in_order_filtered le p xs ordered.1)
 
 module _ (second third : Entry → Entry → Bool) (second_is_chain : IsChain second) (third_is_chain : IsChain third) (all : List Entry) (steps : List ℕ) (ordered : IsInOrder (stands_before second third all) steps) (e : Entry) where
   abbrev step : ℕ → Entry
@@ -130,11 +126,7 @@ module _ (second third : Entry → Entry → Bool) (second_is_chain : IsChain se
 
   -- later ones are no better in the second chain, and earlier ones no better in the third
   in_order_upto : (k l : ℕ) → k ≤ l → l < length steps → stands_before second third all (get_or steps k 0) (get_or steps l 0) ≡ true
-  in_order_upto k l le there =
-      elim (cases_eq k l) [
-        | inl same ↦ rw same (grind (arith, second_is_chain.strict.irreflexive (step l), third_is_chain.strict.irreflexive (step l)))
-        | inr other ↦ in_order_at (stands_before second third all) steps k l 0 ordered (omega (arith, le, other)) there
-      ]
+  in_order_upto k l le there = grind (arith, in_order_at (stands_before second third all) steps k l 0 ordered, second_is_chain.strict.irreflexive (step l), third_is_chain.strict.irreflexive (step l))
 
   -- the last one that is no worse in the second chain stands for all that are so in both
   last_covers : (count : ℕ) → IsCut (is_before second all e true) steps count → IsCovered second third all steps e → (0 < count) × (covers second third (step (count - 1)) e ≡ true)
