@@ -17,6 +17,10 @@ no_worse_then f chain a b c first then = grind (arith, chain.between c b a)
 covers_then : (second third : Entry → Entry → Bool) → IsChain second → IsChain third → (a b c : Entry) → covers second third a b ≡ true → covers second third b c ≡ true → covers second third a c ≡ true
 covers_then second third second_is_chain third_is_chain a b c first then = grind (arith, no_worse_then second second_is_chain a b c, no_worse_then third third_is_chain a b c)
 
+-- a chain the other way round is one too
+turned : {E : Type 0} (f : E → E → Bool) → IsChain f → IsChain (λ a b. f b a)
+turned f chain = grind (arith, chain.strict, chain.between)
+
 -- what is ahead of an entry that a third one is no worse than: that one is ahead as well, or is behind it
 one_ahead : (f s t : Entry → Entry → Bool) → IsChain f → IsChain s → IsChain t → (m c e : Entry) → is_ahead f s t m e ≡ true
     → f e c ≡ false → covers s t c e ≡ true → (is_ahead f s t c e ≡ true) ⊎ (is_ahead f s t m c ≡ true)
@@ -161,21 +165,15 @@ module _ (second third : Entry → Entry → Bool) (second_is_chain : IsChain se
       → IsInOrder (stands_before second third all) (filter is_better steps ++ place ∷ filter is_behind steps)
   in_order_put place is apart =
       let le = stands_before second third all in
-      let in_second = second_is_chain.strict in
-      let in_third = third_is_chain.strict in
-      in_order_joined le (filter is_better steps) (place ∷ filter is_behind steps) (in_order_filtered le is_better steps ordered)
-      ((λ b m. grind (arith, is, from_filter is_behind steps b m, in_third.transitive e (entry_at all b) e, in_third.irreflexive e)), in_order_filtered le is_behind steps ordered)
-      (λ a b m n. grind (
-        arith,
-        is,
-        from_filter is_better steps a m,
-        apart a,
-        from_filter is_behind steps b,
-        in_second.transitive e (entry_at all a) e,
-        in_second.irreflexive e,
-        in_second.transitive (entry_at all b) (entry_at all a) e,
-        in_third.transitive (entry_at all a) (entry_at all b) e,
-      ))
+      let before : (a : ℕ) → Among a (filter is_better steps) → le a place ≡ true =
+      λ a m. grind (arith, is, from_filter is_better steps a m, apart a, second_is_chain.strict.transitive e (entry_at all a) e, second_is_chain.strict.irreflexive e) in
+      let behind : (b : ℕ) → Among b (filter is_behind steps) → le place b ≡ true =
+      λ b m. grind (arith, is, from_filter is_behind steps b m, third_is_chain.strict.transitive e (entry_at all b) e, third_is_chain.strict.irreflexive e) in
+      in_order_joined le (filter is_better steps) (place ∷ filter is_behind steps) (in_order_filtered le is_better steps ordered) (behind, in_order_filtered le is_behind steps ordered)
+      (λ a b m n. elim n [
+        | inl same ↦ rw same (before a m)
+        | inr rest ↦ covers_then second (λ x y. third y x) second_is_chain (turned third third_is_chain) (entry_at all a) (entry_at all place) (entry_at all b) (before a m) (behind b rest)
+      ])
 
 -- ---- does an entry of the level dominate the next one?
 
