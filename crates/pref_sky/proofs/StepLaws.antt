@@ -67,43 +67,42 @@ same_level over second third rule mark all class i n old new same stands =
           (same.class ∙ w.0, (x, elim w.1.1 [ inl old ↦ inl (same.run.there x old) | inr came ↦ inr (same.fresh.there x came) ], w.1.2));
     }
 
-module _ (over second third : Entry → Entry → Bool) (rule : Entry → ℕ) (mark : ℕ → ℕ) (all : List Entry) (class i n : ℕ) (kept : Level) where
-  module _ (stands : StandsFor over second third rule mark all class i n kept) where
-    -- no entry so far is of a class that begins behind them
-    pub new_class : (later : ℕ) → i ≤ later → StandsFor over second third rule mark all later i n kept
-    new_class later behind = grind (arith)
+module _ (over second third : Entry → Entry → Bool) (rule : Entry → ℕ) (mark : ℕ → ℕ) (all : List Entry) (class i n : ℕ) (kept : Level) (stands : StandsFor over second third rule mark all class i n kept) where
+  -- no entry so far is of a class that begins behind them
+  pub new_class : (later : ℕ) → i ≤ later → StandsFor over second third rule mark all later i n kept
+  new_class later behind = grind (arith)
 
-    -- where the next entry is covered too, nothing changes
-    covered : (IsMember over all (i + 1) n i → IsCovered second third all kept.steps.items (entry_at all i)) → (class ≤ i → IsMember over all (i + 1) n i → (kept.class ≡ class) × HasAlike over all kept (entry_at all i))
-        → StandsFor over second third rule mark all class (i + 1) n kept
-    covered step alike =
-        record {
-          steps_within = λ p m. grind (arith, stands.steps_within p m);
-          steps_cover = λ j member. elim (cases_eq j i) [ inl same ↦ rw same (step (rw same at member)) | inr before ↦ stands.steps_cover j (omega (arith, member.0, before), member.1) ];
-          in_order = stands.in_order;
-          kept_within = λ x m. grind (arith, stands.kept_within x m);
-          run_held = stands.run_held;
-          kept_cover = λ j behind member. elim (cases_eq j i) [
-            | inl same ↦ rw same (alike (omega (arith, behind, same)) (rw same at member))
-            | inr before ↦ stands.kept_cover j behind (omega (arith, member.0, before), member.1)
-          ];
-        }
+  -- where the next entry is covered too, nothing changes
+  covered : (IsMember over all (i + 1) n i → IsCovered second third all kept.steps.items (entry_at all i)) → (class ≤ i → IsMember over all (i + 1) n i → (kept.class ≡ class) × HasAlike over all kept (entry_at all i))
+      → StandsFor over second third rule mark all class (i + 1) n kept
+  covered step alike =
+      record {
+        steps_within = λ p m. grind (arith, stands.steps_within p m);
+        steps_cover = λ j member. elim (cases_eq j i) [ inl same ↦ rw same (step (rw same at member)) | inr before ↦ stands.steps_cover j (omega (arith, member.0, before), member.1) ];
+        in_order = stands.in_order;
+        kept_within = λ x m. grind (arith, stands.kept_within x m);
+        run_held = stands.run_held;
+        kept_cover = λ j behind member. elim (cases_eq j i) [
+          | inl same ↦ rw same (alike (omega (arith, behind, same)) (rw same at member))
+          | inr before ↦ stands.kept_cover j behind (omega (arith, member.0, before), member.1)
+        ];
+      }
 
-    -- as that of another level
-    pub stays : is_at over all n (entry_at all i) ≡ false → StandsFor over second third rule mark all class (i + 1) n kept
-    stays other = covered (λ member. absurd (both_ways (is_at over all n (entry_at all i)) other member.1)) (λ behind member. absurd (both_ways (is_at over all n (entry_at all i)) other member.1))
+  -- as that of another level
+  pub stays : is_at over all n (entry_at all i) ≡ false → StandsFor over second third rule mark all class (i + 1) n kept
+  stays other = covered (λ member. absurd (both_ways (is_at over all n (entry_at all i)) other member.1)) (λ behind member. absurd (both_ways (is_at over all n (entry_at all i)) other member.1))
 
-    -- and one that is alike to a member before it, and level with it in all chains
-    pub alike_stays : (first : Entry → Entry → Bool) → IsChain second → IsChain third → 0 < i → class ≤ i - 1 → is_at over all n (entry_at all (i - 1)) ≡ true
-        → StandAlike over (entry_at all (i - 1)) (entry_at all i) → are_level_in first second third (entry_at all (i - 1)) (entry_at all i) ≡ true → StandsFor over second third rule mark all class (i + 1) n kept
-    alike_stays first second_is_chain third_is_chain some from at alike level =
-        let m = entry_at all (i - 1) in
-        let e = entry_at all i in
-        let last : IsMember over all i n (i - 1) = (omega (arith, some), at) in
-        let w = stands.steps_cover (i - 1) last in
-        let x = stands.kept_cover (i - 1) from last in
-        covered (λ _. (w.0, w.1, covers_then second third second_is_chain third_is_chain (entry_at all w.0) m e w.2 (grind (arith, level))))
-        (λ _ _. (x.0, (x.1.0, x.1.1, record { above = λ c. x.1.2.above c ∙ alike.above c; below = λ c. x.1.2.below c ∙ alike.below c })))
+  -- and one that is alike to a member before it, and level with it in all chains
+  pub alike_stays : (first : Entry → Entry → Bool) → IsChain second → IsChain third → 0 < i → class ≤ i - 1 → is_at over all n (entry_at all (i - 1)) ≡ true
+      → StandAlike over (entry_at all (i - 1)) (entry_at all i) → are_level_in first second third (entry_at all (i - 1)) (entry_at all i) ≡ true → StandsFor over second third rule mark all class (i + 1) n kept
+  alike_stays first second_is_chain third_is_chain some from at alike level =
+      let m = entry_at all (i - 1) in
+      let e = entry_at all i in
+      let last : IsMember over all i n (i - 1) = (omega (arith, some), at) in
+      let w = stands.steps_cover (i - 1) last in
+      let x = stands.kept_cover (i - 1) from last in
+      covered (λ _. (w.0, w.1, covers_then second third second_is_chain third_is_chain (entry_at all w.0) m e w.2 (grind (arith, level))))
+      (λ _ _. (x.0, (x.1.0, x.1.1, record { above = λ c. x.1.2.above c ∙ alike.above c; below = λ c. x.1.2.below c ∙ alike.below c })))
 
 -- what is among a list with one more behind it
 pub pushed : {E : Type 0} (xs ys : List E) (x : E) → ys ≡ xs ++ x ∷ [] → Among x ys × ((y : E) → Among y ys → Among y xs ⊎ (y ≡ x)) × ((y : E) → Among y xs → Among y ys)
@@ -178,10 +177,6 @@ module _ (second third : Entry → Entry → Bool) (second_is_chain : IsChain se
 -- ---- does an entry of the level dominate the next one?
 
 module _ (over first second third : Entry → Entry → Bool) (all : List Entry) (swept : AreSwept over first second third all) where
-  -- what stands before an entry is no worse than it in the first chain
-  no_worse_in_first : (j p : ℕ) → j ≤ p → p < length all → first (entry_at all p) (entry_at all j) ≡ false
-  no_worse_in_first j p before inside = grind (arith, swept.in_lead j p before inside)
-
   among : (j : ℕ) → j < length all → Among (entry_at all j) all
   among j inside = among_place all j (record { id = 0; row = [] }) inside
 
@@ -213,7 +208,7 @@ module _ (over first second third : Entry → Entry → Bool) (all : List Entry)
 
     -- a step is no worse than the next entry in the first chain
     in_first : (p : ℕ) → Among p steps → first next_one (entry_at all p) ≡ false
-    in_first p m = no_worse_in_first p i (omega (arith, (stands.steps_within p m).0)) inside
+    in_first p m = grind (arith, swept.in_lead p i (omega (arith, (stands.steps_within p m).0)) inside)
 
     step_inside : (p : ℕ) → Among p steps → p < length all
     step_inside p m = omega (arith, (stands.steps_within p m).0, inside)
