@@ -16,6 +16,10 @@ use Rattle.pref_sky.specs.Chains.{earlier_in}
 pub chain_in_turn : {E : Type 0} (f g : E → E → Bool) → IsChain f → IsChain g → IsChain (in_turn f g)
 chain_in_turn f g first second = grind (arith)
 
+-- what things are mapped to ranks them as a chain
+pub mapped_chain : {E F : Type 0} (f : E → F) (before : F → F → Bool) → IsChain before → IsChain (λ a b. before (f a) (f b))
+mapped_chain f before chain = grind (arith, chain)
+
 -- two that are level compare alike with a third
 pub level_above : {E : Type 0} (f : E → E → Bool) → IsChain f → (a b c : E) → are_level f a b ≡ true → f c a ≡ f c b
 level_above f chain a b c level = grind (arith, level, chain.between c a b, chain.between c b a)

@@ -1,6 +1,6 @@
-use Rattle.pref_sky.proofs.Common.{◌≡◌, ◌++◌, ◌∙◌, All, All-append, All-permutation, IfOk-weaker, IsChain, IsPermutation, IsPermutation-map, OwnOrder, AreSorted, Ranked, ap, arith, at_level, comes_before, entry_of, get_or, get_or-map, inl, inr, length, length-map, map, map-append, not, refl, rules, subst, sym, ◌<◌, []}
+use Rattle.pref_sky.proofs.Common.{◌≡◌, ◌++◌, ◌∙◌, All, All-append, All-permutation, IfOk-weaker, IsPermutation, IsPermutation-map, AreSorted, Ranked, ap, arith, at_level, comes_before, entry_of, get_or, get_or-map, inl, inr, length, length-map, map, map-append, not, refl, rules, subst, sym, ◌<◌, []}
 use Rattle.std.proofs.lemmas.List.Elements.{All-map}
-use Rattle.pref_sky.proofs.ChainLaws.{in_order_from_sort_by, mapped_in_order}
+use Rattle.pref_sky.proofs.ChainLaws.{in_order_from_sort_by, mapped_chain, mapped_in_order}
 use Rattle.pref_sky.proofs.ListLaws.{among_place}
 use Rattle.pref_sky.proofs.OwnOrders.{before_is_chain}
 use Rattle.pref_sky.proofs.RankingLaws.{entries_with_level}
@@ -8,9 +8,6 @@ use Rattle.pref_sky.specs.Held.{AreTakenOver, IsTakenOver}
 use Rattle.pref_sky.specs.Ranking.{marks, with_level}
 use Rattle.pref_sky.specs.declared.merging.Marked.{Marked}
 use Rattle.pref_sky.proofs.merging.merge_all.Goals as goal
-
-ranked_chain : (order : OwnOrder) → IsChain {E = Ranked} (λ a b. comes_before order (entry_of a) (entry_of b))
-ranked_chain order = grind (arith, before_is_chain order)
 
 pub returns : goal.returns
 returns c level leveled =
@@ -39,7 +36,7 @@ returns c level leveled =
         moved = subst (λ l. IsPermutation l (map entry_of all)) entries (IsPermutation-map entry_of _ all moved);
         in_order =
             mapped_in_order entry_of (λ a b. not (comes_before order b a)) all
-            (in_order_from_sort_by (λ (m : Marked). at_level m.level m.entry.now) (λ a b. comes_before order (entry_of a) (entry_of b)) (ranked_chain order) sorted c.in_ok-sort_by.ensures.sorted (λ a r q k. search rules));
+            (in_order_from_sort_by (λ (m : Marked). at_level m.level m.entry.now) (λ a b. comes_before order (entry_of a) (entry_of b)) (mapped_chain entry_of (comes_before order) (before_is_chain order)) sorted c.in_ok-sort_by.ensures.sorted (λ a r q k. search rules));
       }),
       subst (λ l. AreTakenOver level held l merged.held.items) (sym copies) (subst (AreTakenOver level held (map entry_of all)) (sym found) taken),
     )) c.copied.ensures
