@@ -1,6 +1,6 @@
 use Rattle.pref_term.proofs.Common.{List, arith, ap, ◌∙◌, length, Placed}
 use Rattle.pref_term.proofs.LedLemmas.{fault_exit}
-use Rattle.pref_term.proofs.CycleLemmas.{more_factors, more_factors_fail, more_products, more_products_fail}
+use Rattle.pref_term.proofs.CycleLemmas.{more_factors, more_factors_fail, more_products, more_products_fail, reads_group, reads_unary}
 use Rattle.pref_term.proofs.read.term.+term.Goals as goal
 
 pub prior-returns-in_err-last-clause-parsed : goal.prior-returns-in_err-last-clause-parsed
@@ -29,3 +29,33 @@ product-loop-taken-preserved t c =
       so_far = rw (c.in_ok-term-2.ensures {u = tt}) (more_factors _ _ _ _ _ _ c.loop-taken.invariant.so_far c.take-taken.result.at e _ _ c.in_ok-factor.ensures.parsed);
       shorter = omega (arith, c.in_ok-factor.ensures.shorter, c.loop-taken.invariant.shorter, passed);
     }
+
+pub group-returns-in_err-inside-clause-parsed : goal.group-returns-in_err-inside-clause-parsed
+group-returns-in_err-inside-clause-parsed t c = grind (arith, reads_group)
+
+pub group-returns-in_err-term-clause-parsed : goal.group-returns-in_err-term-clause-parsed
+group-returns-in_err-term-clause-parsed t c = grind (arith, reads_group)
+
+pub group-returns-in_err-rest-clause-parsed : goal.group-returns-in_err-rest-clause-parsed
+group-returns-in_err-rest-clause-parsed t c = grind (arith, reads_group)
+
+pub group-returns-then-not-is-clause-parsed : goal.group-returns-then-not-is-clause-parsed
+group-returns-then-not-is-clause-parsed t c = grind (arith, reads_group)
+
+pub group-returns-clause-parsed : goal.group-returns-clause-parsed
+group-returns-clause-parsed t c = grind (arith, reads_group)
+
+pub unary-returns-in_err-inside-clause-parsed : goal.unary-returns-in_err-inside-clause-parsed
+unary-returns-in_err-inside-clause-parsed t c = grind (arith, reads_unary)
+
+pub unary-returns-in_err-part-clause-parsed : goal.unary-returns-in_err-part-clause-parsed
+unary-returns-in_err-part-clause-parsed t c = grind (arith, reads_unary)
+
+pub unary-returns-then-is-clause-parsed : goal.unary-returns-then-is-clause-parsed
+unary-returns-then-is-clause-parsed t c = grind (arith, reads_unary)
+
+pub unary-returns-in_default : goal.unary-returns-in_default
+unary-returns-in_default t c = grind (arith, reads_unary)
+
+pub unary-returns-in_err-part-in-Some-Reverse-clause-parsed : goal.unary-returns-in_err-part-in-Some-Reverse-clause-parsed
+unary-returns-in_err-part-in-Some-Reverse-clause-parsed t c = grind (arith, reads_unary)
