@@ -108,7 +108,6 @@ impl<J: BoardBrand> Client<J> {
     /// ```rust
     /// let price = client.get(id)?.cell(0);     // 80
     /// ```
-    #[tactic(auto, using(crate::proofs::ViewsLaws::still_knows, crate::proofs::StandingLaws::stands_seen))]
     pub fn get(&mut self, id: u64) -> Result<Row, ShareFault>
         ensures row { IfOk result (λ row. Sees J.opening self.old self.new × (row_after J.opening self.new.seen id ≡ Some row)) }
         ensures refused { IfErr result (λ fault. RefusesGet J.opening self.old id fault self.new) }
@@ -137,7 +136,6 @@ impl<J: BoardBrand> Client<J> {
     /// ```rust
     /// let is_full = client.room()? == 0;     // false
     /// ```
-    #[tactic(auto, using(crate::proofs::ViewsLaws::still_knows, crate::proofs::StandingLaws::stands_seen))]
     pub fn room(&mut self) -> Result<u32, ShareFault>
         ensures room { IfOk result (λ room. Sees J.opening self.old self.new × (room ≡ room_at J.opening self.new.seen)) }
         ensures refused { IfErr result (λ fault. (fault ≡ Closed) × (self.new ≡ self.old)) }

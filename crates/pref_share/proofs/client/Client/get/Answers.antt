@@ -1,6 +1,7 @@
-use Rattle.pref_share.proofs.Common.{rules, refl, sym, ◌≡◌, ◌∙◌, state_at, row_after}
+use Rattle.pref_share.proofs.Common.{arith, rules, refl, sym, ◌≡◌, ◌∙◌, state_at, row_after}
 use Rattle.pref_share.proofs.HistoryLaws.{left_stands}
-use Rattle.pref_share.proofs.StandingLaws.{sees}
+use Rattle.pref_share.proofs.StandingLaws.{sees, stands_seen}
+use Rattle.pref_share.proofs.ViewsLaws.{still_knows}
 use Rattle.pref_share.proofs.client.Client.get.Goals.{Joined-row, in-Some-row, in-None}
 use Rattle.pref_share.proofs.client.Client.get.Given.{Over}
 use Rattle.pref_share.proofs.client.Client.get.Goals as goal
@@ -29,3 +30,9 @@ returns-clause-refused g c =
       | in-Some-row w ↦ rw w.result-is search rules
       | in-None w ↦ rw w.result-is (rw (← c.self.view_is) (refl, sees o _ _ read.0 read.1 refl refl refl, sym (is_row g c) ∙ w.in-None.is))
     ]
+
+pub invariant_of-self : goal.invariant_of-self
+invariant_of-self g c = grind (arith, still_knows, stands_seen)
+
+pub invariant_of-self-2 : goal.invariant_of-self-2
+invariant_of-self-2 g c = grind (arith, still_knows, stands_seen)
