@@ -1,5 +1,5 @@
 -- Entries that were held already, when others come: as many levels are above them as before, or more, and none that was of a level is over one that was of it or of one above.
-use Rattle.pref_sky.proofs.Common.{◌≡◌, ℕ, zero, suc, ◌<◌, ◌≤◌, ◌-◌, Bool, true, false, List, [], refl, sym, ◌∙◌, ap, subst, arith, length, get_or, get_or-map, map, filter, nat_lt, not, All}
+use Rattle.pref_sky.proofs.Common.{◌≡◌, ℕ, zero, suc, ◌<◌, ◌≤◌, ◌-◌, Bool, true, false, List, [], refl, sym, ◌∙◌, ap, subst, arith, length, get_or, get_or-map, map, filter, nat_lt, All}
 use Rattle.pref_sky.proofs.Common.{Entry, Among, comes_after, count_above, entry_at, entry_of, level_of, own_levels, own_order, AreLeveled, AreLowest, HaveDifferentIds, Item, OwnOrder}
 use Rattle.pref_sky.proofs.OwnOrders.{own_is_strict}
 use Rattle.pref_sky.proofs.KeptLaws.{keeps_filtered}

@@ -36,12 +36,12 @@ module _ (over : Entry → Entry → Bool) (strict : IsStrictOrder over) (some a
       same_in_order _ _ (level_differs over strict some all cut keeps different n early) (level_differs over strict all all cut (keeps_all all) different n early)
       (grind (arith, best_of_rest_is over some n, best_of_rest_is over all n, from_filter, in_filter, keeps.within, keeps.covers, same n, same (suc n), early_stays over all (suc n) cut))
 
-  levels_upto : (n : ℕ) → n ≤ cut → levels over some n ≡ levels over all n
-  levels_upto zero le = refl
-  levels_upto (suc n) le = grind (arith, same_level n, levels_upto n)
+  same_upto : (n : ℕ) → n ≤ cut → levels over some n ≡ levels over all n
+  same_upto zero le = refl
+  same_upto (suc n) le = grind (arith, same_level n, same_upto n)
 
   pub levels_kept : levels over some cut ≡ levels over all cut
-  levels_kept = levels_upto cut (omega arith)
+  levels_kept = same_upto cut (omega arith)
 
 -- new entries come to those that are held, of which those of the levels count alone
 module _ (over : Entry → Entry → Bool) (strict : IsStrictOrder over) (cut : ℕ) (held entries : List Entry) (different : HaveDifferentIds (map entry_of (levels over held cut) ++ entries)) where
