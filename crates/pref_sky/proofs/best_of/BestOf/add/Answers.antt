@@ -11,8 +11,3 @@ invariant_of-self-2 c =
     let before = c.self.invariant.0 in
     let rows = c.args.rows.now in
     (before ++ rows, grind (arith, c.self.invariant.1, c.in_ok-add.ensures.ok (numbered before), all_differ before rows, numbered_before before rows, length-append before rows))
-
-pub returns-clause-ok : goal.returns-clause-ok
-returns-clause-ok c q before is =
-    let rows = c.args.rows.now in
-    grind (arith, c.self.view_is, is, c.in_ok-add.ensures.ok (numbered before), all_differ before rows, numbered_before before rows, length-append before rows)
