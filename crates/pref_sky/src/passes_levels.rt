@@ -27,6 +27,7 @@ fn push_level(ranked: &mut Vec<Ranked>, level: u32, entries: &[Entry]) -> Result
 ///
 /// Cost: for each level the passes of [`best_rows`](crate::best_rows) over what the levels before leave, until nothing is left, and for each of
 /// these a look among the best for one that dominates it.
+#[tactic(auto, using(std::proofs::lemmas::Grind::common_steps, crate::proofs::PassedLevels::no_later_level))]
 pub(crate) fn levels_by_passes<D: Dominance>(
     alloc: Global,
     dominance: &D,

@@ -1,7 +1,7 @@
-use Rattle.pref_sky.proofs.Common.{rules, ◌≡◌, sym, ◌∙◌, ap, subst, arith, add-one, filter, eqb-true, nil_from_length, HaveDifferentIds, best, entry_order, in_order_of_id, is_beaten, rest}
+use Rattle.pref_sky.proofs.Common.{rules, ◌≡◌, sym, ◌∙◌, ap, subst, arith, add-one, filter, HaveDifferentIds, best, entry_order, in_order_of_id, is_beaten, rest}
 use Rattle.std.proofs.lemmas.Fn.{filter_same}
 use Rattle.pref_sky.proofs.Merges.{comes_after, different_filter, entry_order_is_strict, rest_is}
-use Rattle.pref_sky.proofs.PassedLevels.{no_later_level, without_these}
+use Rattle.pref_sky.proofs.PassedLevels.{without_these}
 use Rattle.pref_sky.proofs.passes_levels.levels_by_passes.Goals as goal
 
 pub best_rows-requires-clause-ids : goal.best_rows-requires-clause-ids
@@ -27,6 +27,3 @@ each_level-preserved g c =
       left = rw (add-one n) (kept ∙ (ap (filter (is_beaten over top)) inv.left ∙ (ap (λ l. filter (is_beaten over l) before) is ∙ dominated)));
       upto = omega (arith, c.each_level-test.true);
     }
-
-pub returns : goal.returns
-returns g c = grind (arith, eqb-true, nil_from_length c.each_level.left.items, no_later_level (entry_order (g.D.Dominance.order c.args.dominance.now)) c.args.entries.now c.each_level.level c.args.cut)
