@@ -120,7 +120,7 @@ impl BestOf {
     /// Refused `OutOfIds` where more than 2^64 - 1 rows would have been added, else `OutOfMemory`. No row was added then.
     ///
     /// Cost and memory: those of [`Partial::add`], and a copy of the rows with their ids, 136 bytes for each.
-    #[tactic(auto, using(std::proofs::lemmas::Grind::common_steps, crate::proofs::NumberedLaws::all_differ, crate::proofs::NumberedLaws::numbered_before))]
+    #[tactic(auto, using(std::proofs::lemmas::Grind::common_steps, crate::proofs::NumberedLaws::all_differ, crate::proofs::NumberedLaws::new_differ, crate::proofs::NumberedLaws::numbered_before))]
     pub fn add(&mut self, alloc: Global, rows: &[Row]) -> Result<(), AddFault>
         ensures ok { (q : Question) (before : List Row) → self.old ≡ best_of q before → OnOk result (self.new ≡ best_of q (before ++ rows.now)) }
         ensures err { OnErr result (self.new ≡ self.old) }

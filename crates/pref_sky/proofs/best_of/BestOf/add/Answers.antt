@@ -1,10 +1,7 @@
 use Rattle.pref_sky.proofs.Common.{◌++◌, arith, length-append}
 use Rattle.pref_sky.specs.NumberedRows.{numbered}
-use Rattle.pref_sky.proofs.NumberedLaws.{all_differ, new_differ, numbered_before}
+use Rattle.pref_sky.proofs.NumberedLaws.{all_differ, numbered_before}
 use Rattle.pref_sky.proofs.best_of.BestOf.add.Goals as goal
-
-pub add-requires-clause-ids : goal.add-requires-clause-ids
-add-requires-clause-ids c = grind (arith, new_differ c.self.inside.ask c.self.invariant.0 c.args.rows.now, c.self.invariant.1)
 
 pub invariant_of-self-2 : goal.invariant_of-self-2
 invariant_of-self-2 c =
