@@ -1,11 +1,11 @@
 //! What the calls on rows and queries do to a table.
-ghost use Rattle.std.specs.Prelude.{◌≡◌, ◌≤◌, [], take, length};
+ghost use Rattle.std.specs.Prelude.{◌≡◌, ◌≤◌, ◌+◌, ◌*◌, [], length};
 ghost use Rattle.pref_core.specs.declared.event.Act.{Act};
 ghost use Rattle.pref_core.specs.declared.event.Reply.{Reply};
 ghost use Rattle.prefq_c.specs.Acts.{Abandons, Acts, Begins, BeginsAll, Commits, Deletes, Finishes, Gets, Inserts, InsertsEach, InsertsMany, InsertsWithin, Scans, TellsRoom, Updates, UpdatesFirst, answer_numbers, first_id, width_of};
 ghost use Rattle.prefq_c.specs.Openings.{HaveRows, rows_in};
 
-use crate::answer::put_rows;
+use crate::answer::{copy_cells, put_rows};
 use crate::changes::{Piece, changes_of, row_of, updates_of};
 use crate::fault::Fault;
 use crate::table::{MOST_ROWS, Table, behind};
@@ -16,16 +16,6 @@ use std::alloc::Global;
 
 /// The client whose acts change rows and look them up.
 const CLIENT: u8 = 1;
-
-/// Copies the first cells of a row, as many as there are places.
-fn copy_cells(row: &Row, numbers: &mut [i64])
-    requires { length numbers.old ≤ 16 }
-    ensures { numbers.new ≡ take (length numbers.old) row.now }
-{
-    for col in 0..numbers.len() {
-        numbers[col] = row.cell(col);
-    }
-}
 
 /// The id of the first of some rows, by that of the first one before and of the next one.
 fn first_id(first: u64, id: u64) -> u64
@@ -223,7 +213,7 @@ impl Table {
 
     /// Puts the numbers of the answer that is kept into an array of so many places, and keeps it no longer.
     pub fn hand_over(&mut self, alloc: Global, numbers: &mut [i64])
-        requires { length numbers.old ≡ length (answer_numbers self.old) }
+        requires { length numbers.old ≡ length self.old.answer * (2 + width_of self.old) }
         ensures numbers { numbers.new ≡ answer_numbers self.old }
         ensures taken { self.new ≡ record self.old { answer = [] } }
     {

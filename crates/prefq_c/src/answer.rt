@@ -1,5 +1,5 @@
 //! What a call answers of what was returned.
-ghost use Rattle.std.specs.Prelude.{◌≡◌, ◌≤◌, ◌<◌, ◌++◌, ◌+◌, None, length, take, Result};
+ghost use Rattle.std.specs.Prelude.{◌≡◌, ◌≤◌, ◌<◌, ◌+◌, ◌*◌, None, length, take, Result};
 ghost use Rattle.prefq_c.specs.Ends.{Answered, Put, Refused, Returns};
 ghost use Rattle.prefq_c.specs.Faults.{behind_number};
 ghost use Rattle.prefq_c.specs.Numbers.{row_numbers, rows_numbers};
@@ -9,6 +9,7 @@ use crate::fault::{Fault, refusal_numbers, refusal_text};
 use crate::handle::{Handle, freeze};
 use crate::table::Table;
 use pref_sky::Ranked;
+use pref_table::Row;
 use std::alloc::Global;
 
 /// Puts a text and a zero behind it at the head of an array, as far as both fit.
@@ -76,30 +77,37 @@ pub fn end(
     ended
 }
 
-/// Puts the numbers of a row of an answer into an array from this place on, and returns where they end.
-fn put_row(width: usize, ranked: &Ranked, numbers: &mut [i64], at: usize) -> usize
-    requires width { width ≤ 16 }
-    requires room { at + (2 + width) ≤ length numbers.old }
-    ensures length { length numbers.new ≡ length numbers.old }
-    ensures end { result ≡ at + (2 + width) }
-    ensures numbers { take result numbers.new ≡ take at numbers.old ++ row_numbers width ranked.now }
+/// Copies the first cells of a row, as many as there are places.
+pub fn copy_cells(row: &Row, numbers: &mut [i64])
+    requires { length numbers.old ≤ 16 }
+    ensures { numbers.new ≡ take (length numbers.old) row.now }
 {
-    numbers[at] = i64::from(ranked.level);
-    numbers[at + 1] = ranked.id.cast_signed();
-    for col in 0..width {
-        numbers[at + 2 + col] = ranked.row.cell(col);
+    for col in 0..numbers.len() {
+        numbers[col] = row.cell(col);
     }
-    at + 2 + width
+}
+
+/// Puts the numbers of a row of an answer into an array of so many places.
+fn put_row(width: usize, ranked: &Ranked, numbers: &mut [i64])
+    requires width { width ≤ 16 }
+    requires room { length numbers.old ≡ 2 + width }
+    ensures { numbers.new ≡ row_numbers width ranked.now }
+{
+    numbers[0] = i64::from(ranked.level);
+    numbers[1] = ranked.id.cast_signed();
+    copy_cells(&ranked.row, &mut numbers[2..]);
 }
 
 /// Puts the numbers of an answer into an array of so many places.
+#[tactic(auto, using(crate::proofs::NumbersLaws::row_inside))]
 pub fn put_rows(width: usize, rows: &[Ranked], numbers: &mut [i64])
     requires width { width ≤ 16 }
-    requires room { length numbers.old ≡ length (rows_numbers width rows.now) }
+    requires room { length numbers.old ≡ length rows.now * (2 + width) }
     ensures { numbers.new ≡ rows_numbers width rows.now }
 {
     let mut at = 0;
     for ranked in rows {
-        at = put_row(width, ranked, numbers, at);
+        put_row(width, ranked, &mut numbers[at..at + 2 + width]);
+        at += 2 + width;
     }
 }

@@ -1,6 +1,6 @@
 //! The calls on queries. They end as those on rows do.
-ghost use Rattle.std.specs.Prelude.{◌≡◌, [], IfSome, IsSome, Some, length, min};
-ghost use Rattle.prefq_c.specs.Acts.{Abandons, Begins, BeginsAll, Finishes, Scans, answer_numbers};
+ghost use Rattle.std.specs.Prelude.{◌≡◌, ◌+◌, ◌*◌, [], IfSome, IsSome, Some, length, min};
+ghost use Rattle.prefq_c.specs.Acts.{Abandons, Begins, BeginsAll, Finishes, Scans, answer_numbers, width_of};
 ghost use Rattle.prefq_c.specs.Ends.{Ends};
 
 use crate::answer::end;
@@ -77,7 +77,7 @@ pub extern "C" fn prefq_table_finish(
 #[unsafe(no_mangle)]
 pub extern "C" fn prefq_table_answer(alloc: Global, handle: &mut Handle, numbers: &mut [i64])
     requires some { IsSome handle.old.value }
-    requires room { IfSome handle.old.value (λ table. length numbers.old ≡ length (answer_numbers table)) }
+    requires room { IfSome handle.old.value (λ table. length numbers.old ≡ length table.answer * (2 + width_of table)) }
     ensures { IfSome handle.old.value (λ before. (numbers.new ≡ answer_numbers before) × (handle.new.value ≡ Some (record before { answer = [] }))) }
 {
     let mut table = take(alloc, handle);

@@ -1,17 +1,13 @@
-use Rattle.std.proofs.Common.{arith, ◌∙◌, pos}
+use Rattle.std.proofs.Common.{arith, ◌≡◌, ◌∙◌, of_z, pos, take, to_z}
 use Rattle.std.specs.Int.{w64, cast_signed}
 use Rattle.std.proofs.lemmas.Int.{to_z-of_z}
-use Rattle.std.proofs.lemmas.List.{length-set}
-use Rattle.prefq_c.proofs.NumbersLaws.{cell-put, head-put}
+use Rattle.std.proofs.lemmas.List.{length-drop, length-set, length-take}
+use Rattle.prefq_c.proofs.NumbersLaws.{row-put}
 use Rattle.prefq_c.proofs.answer.put_row.Goals as goal
 
-pub loop-col-init : goal.loop-col-init
-loop-col-init c =
-    head-put c.args.numbers.now c.args.at (pos c.args.ranked.now.level) (cast_signed w64 c.args.ranked.now.id) _ _ c.args.ranked.now.row (omega (arith, c.requires.room)) (grind (arith, to_z-of_z)) (grind (arith, to_z-of_z))
-
-pub loop-col-preserved : goal.loop-col-preserved
-loop-col-preserved c =
-    let (same, numbers) = c.loop-col.invariant in (
-      length-set _ _ _ ∙ same,
-      cell-put c.loop-col.numbers c.args.numbers.now c.args.at c.loop-col.col _ _ _ _ c.args.ranked.now.row (omega arith) (omega (arith, same, c.requires.room, c.loop-col-test.true)) (grind (arith, to_z-of_z)) numbers,
-    )
+pub returns : goal.returns
+returns c =
+    let level : to_z w64 (of_z w64 c.from.result) ≡ pos c.args.ranked.now.level = grind (arith, to_z-of_z) in
+    let id : to_z w64 (of_z w64 c.cast_signed.result) ≡ cast_signed w64 c.args.ranked.now.id = grind (arith, to_z-of_z) in
+    let values : c.copy_cells.new.numbers ≡ take c.args.width c.args.ranked.now.row = grind (arith, length-drop, length-set, length-take) in
+    row-put c.args.numbers.now c.copy_cells.new.numbers _ _ (omega (arith, c.requires.room)) ∙ grind (arith, level, id, values)

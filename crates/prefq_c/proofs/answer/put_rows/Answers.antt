@@ -1,23 +1,19 @@
-use Rattle.std.proofs.Common.{arith, ◌∙◌, sym}
-use Rattle.prefq_c.proofs.NumbersLaws.{numbers-more, numbers-room, numbers-whole}
+use Rattle.std.proofs.Common.{arith, ◌∙◌, ◌++◌, ap, length, sym, take}
+use Rattle.std.proofs.lemmas.Slice.{take-put_mid}
+use Rattle.prefq_c.proofs.NumbersLaws.{numbers-more, numbers-whole, row_ends, row_inside}
 use Rattle.prefq_c.proofs.answer.put_rows.Goals as goal
-
-pub put_row-at-requires-clause-room : goal.put_row-at-requires-clause-room
-put_row-at-requires-clause-room c =
-    let (same, room, numbers) = c.loop-ranked.invariant in
-    let more = numbers-room c.args.width c.loop-ranked.at _ c.args.rows.now c.loop-ranked.ranked-index c.ranked-item.result c.ranked-item.result c.loop-ranked-test.true (sym c.ranked-item.is) room in
-    omega (arith, more)
 
 pub loop-ranked-preserved : goal.loop-ranked-preserved
 loop-ranked-preserved c =
-    let (same, room, numbers) = c.loop-ranked.invariant in
-    let more = numbers-room c.args.width c.loop-ranked.at _ c.args.rows.now c.loop-ranked.ranked-index c.ranked-item.result c.ranked-item.result c.loop-ranked-test.true (sym c.ranked-item.is) room in (
-      c.put_row-at.ensures.length ∙ same,
-      omega (arith, more, c.put_row-at.ensures.end, c.put_row-at.ensures.length),
-      numbers-more c.args.width _ _ _ c.args.rows.now c.loop-ranked.ranked-index c.ranked-item.result c.ranked-item.result c.loop-ranked-test.true (sym c.ranked-item.is) numbers c.put_row-at.ensures.numbers,
+    let (same, is, numbers) = c.loop-ranked.invariant in
+    let inside = row_inside c.args.width c.loop-ranked.ranked-index (length c.args.rows.now) c.loop-ranked-test.true in
+    let put = take-put_mid c.loop-ranked.at _ c.loop-ranked.numbers c.put_row.new.numbers _ (grind arith) (omega (arith, inside, is, same, c.requires.room)) in (
+      grind arith,
+      omega (arith, is, row_ends c.args.width c.loop-ranked.ranked-index),
+      numbers-more c.args.width _ _ _ c.args.rows.now c.loop-ranked.ranked-index c.ranked-item.result c.ranked-item.result c.loop-ranked-test.true (sym c.ranked-item.is) numbers (put ∙ ap (λ row. take c.loop-ranked.at c.loop-ranked.numbers ++ row) c.put_row.ensures),
     )
 
 pub returns : goal.returns
 returns c =
-    let (same, room, numbers) = c.loop-ranked.invariant in
-    numbers-whole c.args.width c.loop-ranked.at _ _ c.args.rows.now c.loop-ranked.ranked-index (omega arith) room numbers
+    let (same, is, numbers) = c.loop-ranked.invariant in
+    numbers-whole c.args.width c.loop-ranked.at _ _ c.args.rows.now c.loop-ranked.ranked-index (omega arith) (grind (arith, is, same, c.requires.room)) numbers
