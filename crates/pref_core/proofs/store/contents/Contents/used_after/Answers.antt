@@ -1,4 +1,4 @@
-use Rattle.pref_core.proofs.Common.{◌+◌, Some, refl, sym, ap, ◌∙◌, subst, ltb-true, slice_get-get_or, Contents, FitsNext, free_at, row_at, uses_of, change_of, Add, Set}
+use Rattle.pref_core.proofs.Common.{arith, common_steps, ◌+◌, Some, refl, sym, ap, ◌∙◌, subst, ltb-true, slice_get-get_or, Contents, FitsNext, free_at, row_at, uses_of, change_of, Add, Set}
 use Rattle.pref_core.proofs.store.contents.Contents.used_after.Goals as goal
 
 pub returns-in-Add-Some : goal.returns-in-Add-Some
@@ -11,13 +11,4 @@ returns-in-Add-Some c =
     subst (λ change. FitsNext c.args.self.now c.args.slots.now c.args.used (change_of change) (c.args.used + 1)) (sym c.in-Add-Some.is-0) fits
 
 pub returns-in-Set-Some : goal.returns-in-Set-Some
-returns-in-Set-Some c =
-    let place = c.in-Set-Some.place.now in
-    let id = c.in-Set-Some.id in
-    let slot = slice_get-get_or c.args.slots.now c.args.used place (ltb-true _ _ (sym c.in-Set-Some.ensures.lookup.0)) ∙ ap Some (sym c.in-Set-Some.ensures.lookup.1) in
-    let stamp = ap (λ (s : Contents). s.stamp) c.self.view_is in
-    let slots = ap (λ (s : Contents). s.slots) c.self.view_is in
-    let stands = sym (λ i. row_at (stamp i) id (slots i) place) ∙ sym c.stands_at.ensures ∙ c.if-stands_at.true in
-    let fits : FitsNext c.args.self.now c.args.slots.now c.args.used (Set id c.in-Set-Some.field-1-0.now) (c.args.used + 1) =
-    (place, slot, stands, λ ids named. sym (c.frees.ensures.row ids id named stands) ∙ c.if-frees.true, refl) in
-    subst (λ change. FitsNext c.args.self.now c.args.slots.now c.args.used (change_of change) (c.args.used + 1)) (sym c.in-Set-Some.is-0) fits
+returns-in-Set-Some c = grind (arith, common_steps, slice_get-get_or, ltb-true)

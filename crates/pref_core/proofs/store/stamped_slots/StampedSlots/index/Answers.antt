@@ -1,4 +1,4 @@
-use Rattle.pref_core.proofs.Common.{◌+◌, Some, ap, sym, subst, ◌∙◌, slice_get-get_or, slot_of, IsPlaceOf, StampedSlots}
+use Rattle.pref_core.proofs.Common.{arith, common_steps, ◌+◌, Some, ap, sym, subst, ◌∙◌, slice_get-get_or, slot_of, IsPlaceOf, StampedSlots}
 use Rattle.pref_core.proofs.IndexedRows.{IsPlaceUpTo, place_at_end, place_past, place_put, row_at-hidden, row_at-empty}
 use Rattle.pref_core.proofs.store.stamped_slots.StampedSlots.index.Goals.{in-Some+then-is_visible_at+in_ok-put, in-Some+else-is_visible_at, in_default}
 use Rattle.pref_core.proofs.store.stamped_slots.StampedSlots.index.Goals as goal
@@ -20,6 +20,4 @@ loop-place-preserved c id = elim c.match-slots-place.branch [
 ]
 
 pub returns : goal.returns
-returns c id = subst (λ stamp. IsPlaceOf stamp id c.args.self.now.slots (slot_of c.loop-place.index id)) (ap (λ (s : StampedSlots). s.stamp) c.self.view_is)
-    (subst (λ slots. IsPlaceOf c.self.inside.stamp id slots (slot_of c.loop-place.index id)) c.as_slice-slots.ensures
-    (place_at_end c.self.inside.stamp id c.as_slice-slots.result.now c.loop-place.place (slot_of c.loop-place.index id) c.loop-place-test.false (c.loop-place.invariant id)))
+returns c id = grind (arith, common_steps, place_at_end)
