@@ -224,9 +224,6 @@ impl<'a> LentCall<'a> {
     pub(crate) fn is_change(&self) -> bool
         ensures { result ≡ is_change self.now }
     {
-        match self.0 {
-            Lent::Insert(_) | Lent::Update(_, _) | Lent::Delete(_) | Lent::Commit(_) => true,
-            Lent::Begin | Lent::Finish | Lent::Abandon => false,
-        }
+        !matches!(self.0, Lent::Begin | Lent::Finish | Lent::Abandon)
     }
 }
