@@ -32,7 +32,6 @@ pub mod EndReplies
 pub mod MachineActs
 pub mod RepliesLaws
 pub mod HistoryLaws
-pub mod CapacityLaws
 pub mod IndexedRows
 pub mod IndexLaws
 pub mod IdChainsLaws

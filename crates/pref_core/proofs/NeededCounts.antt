@@ -1,8 +1,8 @@
--- As many slots are in use as there are versions that are needed, and fewer are needed where rows end alone.
+-- As many slots are in use as there are versions that are needed, fewer are needed where rows end alone, and so they stay within the capacity.
 use Rattle.pref_core.proofs.Common.{map-append, ◌≡◌, ◌≤◌, ℕ, Bool, true, false, ◌&&◌, ◌||◌, List, [], ◌∷◌, ◌++◌, filter, length, Option, Some, None, is_some, refl, sym, ap, ap₂, ◌∙◌, cons_option, list_any, AllZip, list_any-IsPermutation}
 use Rattle.pref_core.proofs.Common.{IsPermutation-map, length-filter, eq-eqb, Version, Caller, Line, Key, same_key, holds_key, keys, different, State, Client, Snapshot, found_tables, needed, Contents, StandsFor, StandsForClient, Shows}
 use Rattle.pref_core.proofs.Common.{ShowsBegin, seen, visible, is_needed, begins, stamps, AreDifferent, used, list_any-append, arith, AllByRecursion, and_parts, eqb, eqb-true, or_parts, without, Change, Remove, begun_by, begins_any}
-use Rattle.pref_core.proofs.Common.{EndsNeedNoMore}
+use Rattle.pref_core.proofs.Common.{EndsNeedNoMore, suc, slice_get, slice_set, ⊎_elim, or_cases, or_left, or_right, count_by-le-length, Call, is_change, outcome, succeeds, committed, counted, after, NeededFits, NeededFitsSlots}
 use Rattle.std.proofs.lemmas.Map.Made.{length-from_same_keys, length-le_from_is_member}
 use Rattle.std.specs.Cmp.{IsEquivalence}
 use Rattle.std.specs.List.{IsDistinct}
@@ -134,3 +134,60 @@ none_begun next_id changes h = grind (arith)
 
 pub ends_need_no_more : EndsNeedNoMore
 ends_need_no_more state call h = grind (arith, none_begun, without_needs_no_more)
+
+holds : Key → List Line → Bool
+holds key table = holds_key (keys table) key
+
+found_of : Option Snapshot → List Line
+found_of None = []
+found_of (Some found) = found.table
+
+cons_found : (key : Key) (client : Client) (clients : List Client) → holds key (found_tables (client ∷ clients)) ≡ (holds key (found_of client.at_begin) || holds key (found_tables clients))
+unfolding holds found_of
+cons_found key client clients = grind (arith, holds_key-keys-append)
+
+-- what open queries found, once a client is another
+found_set : (key : Key) (clients : List Client) (k : ℕ) (new : Client) → holds key (found_tables (slice_set clients k new)) ≡ true → (holds key (found_of new.at_begin) || holds key (found_tables clients)) ≡ true
+found_set key (client ∷ clients) (suc k) new h = grind (arith, found_set key clients k new, cons_found)
+found_set key clients k new h = grind (arith, cons_found)
+
+found_has : (key : Key) (clients : List Client) (k : ℕ) (who : Client) → slice_get clients k ≡ Some who → holds key (found_of who.at_begin) ≡ true → holds key (found_tables clients) ≡ true
+found_has key (client ∷ clients) (suc k) who at h = cons_found key client clients ∙ or_right (holds key (found_of client.at_begin)) _ (found_has key clients k who at h)
+found_has key clients k who at h = grind (arith, cons_found)
+
+-- what open queries found after a call: no more than before, and the table where the call is a begin
+found_counted : (key : Key) (table : List Line) (state : State) (client : ℕ) (call : Call) → (is_change call ≡ false → table ≡ state.table) → holds key (found_tables (counted state client call)) ≡ true → (holds key table || holds key (found_tables state.clients)) ≡ true
+unfolding holds found_of
+found_counted key table state client call quiet = grind (arith, found_has, found_set)
+
+-- with these clients no more is needed
+needed_counted : (table : List Line) (state : State) (client : ℕ) (call : Call) (next_id commits : ℕ) → (is_change call ≡ false → table ≡ state.table)
+    → length (needed (record { table = table; next_id = next_id; commits = commits; clients = counted state client call })) ≤ length (needed (record { table = table; next_id = next_id; commits = commits; clients = state.clients }))
+unfolding holds
+needed_counted table state client call next_id commits quiet = grind (arith, fewer, holds_key-keys-append, or_left, found_counted, or_cases)
+
+abbrev noted : State → ℕ → Call → State
+noted state client call = record { table = state.table; next_id = state.next_id; commits = state.commits; clients = counted state client call }
+
+noted_fits : (capacity : ℕ) (state : State) (client : ℕ) (call : Call) → length (needed state) ≤ capacity → length (needed (noted state client call)) ≤ capacity
+noted_fits capacity state client call fits = let fewer_now = needed_counted state.table state client call state.next_id state.commits (λ q. refl) in omega arith
+
+-- a change that succeeds leaves what is within the capacity: where it begins no row no more is needed
+change_fits : (capacity : ℕ) (state : State) (call : Call) → is_change call ≡ true → succeeds (outcome capacity state call) ≡ true → length (needed state) ≤ capacity → length (needed (committed call state)) ≤ capacity
+change_fits capacity state call c s fits = grind (arith, ends_need_no_more)
+
+after_fits : (capacity : ℕ) (state : State) (client : ℕ) (call : Call) → length (needed state) ≤ capacity → length (needed (after capacity state client call)) ≤ capacity
+after_fits capacity state client call fits =
+    grind (
+      arith,
+      change_fits capacity state call,
+      noted_fits capacity state client call,
+      needed_counted (committed call state).table state client call (committed call state).next_id (committed call state).commits,
+    )
+
+pub needed_fits : NeededFits
+needed_fits capacity state [] fits legal = fits
+needed_fits capacity state (numbered ∷ history) fits legal = needed_fits capacity (after capacity state numbered.client numbered.call) history (after_fits capacity state numbered.client numbered.call fits) legal.1
+
+pub needed_fits_slots : NeededFitsSlots
+needed_fits_slots contents state h = let size = length-needed contents state h in let few = count_by-le-length (is_needed (stamps contents)) contents.slots in omega arith

@@ -27,13 +27,13 @@ pub fn ends_need_no_more()
 {}
 
 /// The needed versions are never more than the capacity along a legal history.
-#[tactic(auto, using(crate::proofs::CapacityLaws::needed_fits))]
+#[tactic(auto, using(crate::proofs::NeededCounts::needed_fits))]
 pub fn needed_fits()
     ensures { NeededFits }
 {}
 
 /// The needed versions are never more than the slots that represent the state.
-#[tactic(auto, using(crate::proofs::CapacityLaws::needed_fits_slots))]
+#[tactic(auto, using(crate::proofs::NeededCounts::needed_fits_slots))]
 pub fn needed_fits_slots()
     ensures { NeededFitsSlots }
 {}
