@@ -41,9 +41,7 @@ free_other ns slots place other new n = ap (λ (o : Option (Option Version)). el
 -- a place that no row took is as free as before
 pub free_still : (ns : List ℕ) (made : ℕ) (places : List ℕ) (begun : List Entry) (slots now : List (Option Version)) (place : ℕ) → filled ns made places begun slots ≡ Some now → among places place ≡ false → is_free ns now place ≡ is_free ns slots place
 free_still ns made (first ∷ places) (entry ∷ rest) slots now place e a =
-    let parts = or_parts (eqb first place) (among places place) a in
-    let begun = some_then (is_free ns slots first) (filled ns made places rest (slice_set slots first (new_version made entry))) now e in
-    free_still ns made places rest (slice_set slots first (new_version made entry)) now place begun.1 parts.1 ∙ free_other ns slots place first (new_version made entry) (λ same. eqb-false first place parts.0 (sym same))
+    grind (arith, free_still ns made places rest (slice_set slots first (new_version made entry)) now place, or_parts, some_then, free_other, eqb-false)
 free_still ns made places begun slots now place e a = grind (arith)
 
 -- one that wasn't free isn't
@@ -76,14 +74,7 @@ count_grown made ns (fresh ∷ rest) slots = grind (arith, count_grown made ns r
 pub plan_is_not_full : (contents : Contents) (call : Call) (places : List ℕ) (after : List (Option Version)) → filled (suc contents.stamp ∷ begins contents.callers) (suc contents.stamp) places (begun contents.next_id call) (map (close (ended call) (suc contents.stamp)) contents.slots) ≡ Some after
     → used (grown call contents) ≤ length contents.slots
 plan_is_not_full contents call places after e =
-    let closed = map (close (ended call) (suc contents.stamp)) contents.slots in
-    let rows = begun contents.next_id call in
-    omega (
-      arith,
-      filled_fits (suc contents.stamp) (begins contents.callers) places rows closed after e,
-      count_grown (suc contents.stamp) (begins contents.callers) rows closed,
-      length-map contents.slots (close (ended call) (suc contents.stamp)),
-    )
+    grind (arith, filled_fits (suc contents.stamp) (begins contents.callers) places, count_grown (suc contents.stamp) (begins contents.callers), length-map contents.slots (close (ended call) (suc contents.stamp)))
 
 -- nothing ends
 pub close_none : (stamp : ℕ) (slots : List (Option Version)) → map (close [] stamp) slots ≡ slots
@@ -144,27 +135,14 @@ chosen_few contents call fresh rest chosen few h =
 -- one more
 pub choose_one : (contents : Contents) (call : Call) (fresh : Entry) (rest : List Entry) (chosen : List ℕ) (place : ℕ) (freed : List ℕ) → IsFreed contents (ended call) freed
     → is_open (uses_of contents) freed place ≡ true → among chosen place ≡ false → ChosenUpTo contents call (fresh ∷ rest) chosen → ChosenUpTo contents call rest (chosen ++ place ∷ [])
-choose_one contents call fresh rest chosen place freed finds opens new h = record {
-  done = h.done ++ fresh ∷ [];
-  all = h.all ∙ sym (append_assoc h.done (fresh ∷ []) rest);
-  now = _;
-  fills = filled_snoc (stamps_next contents) (suc contents.stamp) chosen h.done (closed_slots contents (ended call)) h.now place fresh h.fills
-      (free_still (stamps_next contents) (suc contents.stamp) chosen h.done (closed_slots contents (ended call)) h.now place h.fills new ∙ finds.opens place ∙ opens);
-}
+choose_one contents call fresh rest chosen place freed finds opens new h =
+    grind (arith, append_assoc h.done (fresh ∷ []) rest, filled_snoc (stamps_next contents) (suc contents.stamp) chosen h.done (closed_slots contents (ended call)) h.now place fresh h.fills (free_still (stamps_next contents) (suc contents.stamp) chosen h.done (closed_slots contents (ended call)) h.now place h.fills new ∙ finds.opens place ∙ opens), free_still (stamps_next contents) (suc contents.stamp) chosen h.done (closed_slots contents (ended call)) h.now place h.fills new)
 
 -- there is one
 pub one_left : (contents : Contents) (call : Call) (fresh : Entry) (rest : List Entry) (chosen freed : List ℕ) → IsFreed contents (ended call) freed
     → is_change call ≡ true → succeeds (outcome_at contents call) ≡ true → ((place : ℕ) → is_open (uses_of contents) freed place ≡ true → among chosen place ≡ true) → ChosenUpTo contents call (fresh ∷ rest) chosen → ⊥
 one_left contents call fresh rest chosen freed finds c ok taken h =
-    some_left (suc contents.stamp) (begins contents.callers) chosen h.done (closed_slots contents (ended call)) h.now h.fills
-    (grind (
-      arith,
-      begins_where (changes_of call) contents.next_id h.done fresh rest h.all,
-      count_grown (suc contents.stamp) (begins contents.callers) (begun contents.next_id call) (closed_slots contents (ended call)),
-      length-map,
-      length-append,
-    ))
-    (λ place f. taken place (sym (finds.opens place) ∙ f))
+    grind (arith, some_left (suc contents.stamp) (begins contents.callers) chosen h.done (closed_slots contents (ended call)) h.now h.fills, begins_where (changes_of call) contents.next_id h.done fresh rest h.all, count_grown (suc contents.stamp) (begins contents.callers) (begun contents.next_id call) (closed_slots contents (ended call)), length-map, length-append)
 
 -- all of them
 pub all_chosen : (contents : Contents) (call : Call) (chosen : List ℕ) → is_change call ≡ true → succeeds (outcome_at contents call) ≡ true → ChosenUpTo contents call [] chosen → is_some (placed contents call chosen (outcome_at contents call)) ≡ true

@@ -130,9 +130,7 @@ pub within_at : (stamp : ℕ) (slots : List (Option Version)) (place id : ℕ) �
 within_at stamp slots place id at = let less = id_within (ids_of stamp slots) place id at in let long = length-map slots (shown stamp) in omega arith
 
 pub id_at-here : (ids : List (Option ℕ)) (place : ℕ) (new : Option ℕ) → place < length ids → id_at (set ids place new) place ≡ new
-id_at-here ids place new l =
-    ap (λ (o : Option (Option ℕ)). elim o as (λ x. Option ℕ) [ None ↦ None | Some id ↦ id ]) (slice_get-get_or (set ids place new) place None (let long = length-set ids place new in omega arith))
-    ∙ get_or-set_same ids place new None l
+id_at-here ids place new l = grind (arith, slice_get-get_or (set ids place new) place None, length-set ids place new, get_or-set_same ids place new None l)
 
 pub id_at-there : (ids : List (Option ℕ)) (place : ℕ) (new : Option ℕ) (p : ℕ) → (p ≡ place → ⊥) → id_at (set ids place new) p ≡ id_at ids p
 id_at-there ids place new p d = ap (λ (o : Option (Option ℕ)). elim o as (λ x. Option ℕ) [ None ↦ None | Some id ↦ id ]) (slice_get-set_other ids p place new d)

@@ -53,16 +53,7 @@ AllZip-set R xs ys k a b r h = grind (arith)
 counted_stands : (contents : Contents) (state : State) (client : ℕ) (call : Call) → StandsFor contents state → StandsFor
     (record { slots = contents.slots; stamp = contents.stamp; next_id = contents.next_id; callers = callers_after contents.stamp contents.callers client call })
     (record { table = state.table; next_id = state.next_id; commits = state.commits; clients = counted state client call })
-counted_stands contents state client call h =
-    record {
-      stamp = h.stamp;
-      next_id = h.next_id;
-      table = h.table;
-      clients = grind
-          (arith, AllZip-set, same_seat contents.slots contents.stamp contents.callers state.clients client h.clients);
-      separate = h.separate;
-      within = h.within;
-    }
+counted_stands contents state client call h = grind (arith, AllZip-set, same_seat contents.slots contents.stamp contents.callers state.clients client h.clients)
 
 -- a change that succeeds misses no row
 pub succeeds-missing : (capacity : ℕ) (begins : Bool) (m : Option ℕ) (size : ℕ) (success_outcome : Outcome) → succeeds (outcome_of capacity begins m size success_outcome) ≡ true → m ≡ None

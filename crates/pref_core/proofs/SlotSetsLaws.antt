@@ -160,10 +160,7 @@ module _ (order positions bounds : List ℕ) (place : ℕ) (a : IsArranged order
   uses = map (use_at bounds) positions
 
   pub use_here : (old : SlotUse) → slice_get uses place ≡ Some old → (place < length order) × (use_at bounds (get_or positions place 0) ≡ old)
-  use_here old at =
-      let inside = slice_get_within uses place old at in
-      let long = length-map positions (use_at bounds) in
-      grind (arith, a.inverse.long, get_or-map (use_at bounds) positions place 0 old, get_or_from_slice_get uses place old old at)
+  use_here old at = grind (arith, slice_get_within uses place old at, length-map positions (use_at bounds), get_or-map (use_at bounds) positions place 0 old, get_or_from_slice_get uses place old old at)
 
   pub number_here : (k : ℕ) → slice_get uses place ≡ Some (numbered k) → number_at bounds (get_or positions place 0) ≡ k
   number_here k at = use_number bounds (get_or positions place 0) k (use_here (numbered k) at).1
@@ -184,20 +181,7 @@ module _ (order positions bounds : List ℕ) (place : ℕ) (a : IsArranged order
       → get_or (set bounds k bound) 0 0 + cond (is_free_use old) 1 0 ≡ get_or bounds 0 0 + cond (is_free_use slot_use) 1 0
       → IsStep k to bound slot_use
   step_from k to bound old slot_use at lk lp lt same low high most count =
-      let long = length_order order positions place to a.inverse lp lt in
-      record {
-        here = lp;
-        there = lt;
-        arranged = record {
-          inverse = inverse_moved order positions place to a.inverse lp lt;
-          few = let f = a.few in omega arith;
-          bounded = length-set bounds k bound ∙ a.bounded;
-          ascending = ascending_set bounds k bound a.bounded lk low high a.ascending;
-          inside = inside_set bounds k bound _ a.bounded lk (omega arith) (λ i l. let f = a.inside i l in omega arith);
-          counted = ap (count_by is_free_use) same ∙ (let e = count_set is_free_use uses place old slot_use at in let f = a.counted in omega arith);
-        };
-        same = same;
-      }
+      grind (arith, length_order order positions place to a.inverse lp lt, inverse_moved order positions place to a.inverse lp lt, length-set bounds k bound, ascending_set bounds k bound a.bounded lk low high a.ascending, inside_set bounds k bound, count_set is_free_use uses place old slot_use at)
 
   -- a place goes down, ..
   pub lowers : (k : ℕ) → k < 9 → slice_get uses place ≡ Some (numbered (suc k)) → IsStep k (get_or bounds k 0) (get_or bounds k 0 + 1) (numbered k)
