@@ -1,5 +1,5 @@
 -- Slots for the rows that a call begins: there are some exactly where the needed versions fit, and they are chosen one after the other, in any way.
-use Rattle.pref_core.proofs.Common.{◌≡◌, ℕ, zero, suc, ◌+◌, ◌<◌, ◌≤◌, Bool, true, false, not, cond, eqb, List, [], ◌∷◌, ◌++◌, map, length, Option, Some, None, slice_get, slice_set, refl, sym, ap, ◌∙◌}
+use Rattle.pref_core.proofs.Common.{◌≡◌, ℕ, zero, suc, ◌+◌, ◌<◌, ◌≤◌, Bool, true, false, not, cond, List, [], ◌∷◌, ◌++◌, map, length, Option, Some, None, slice_get, slice_set, refl, ap, ◌∙◌}
 use Rattle.pref_core.proofs.Common.{arith, count_by, count_by-le-length, or_parts, eqb-false, Version, Entry, among, is_needed, new_version, is_free, filled, not-false, length-map, Call}
 use Rattle.pref_core.proofs.Common.{ended, begun, success_outcome, succeeds, Contents, begins, close, grown, used, ◌&&◌, Result, Ok, is_some, length-append, append-nil}
 use Rattle.pref_core.proofs.Common.{append_assoc, Op, Change, Add, Set, Remove, begun_by, begins_any, changes_of, begins_row, is_change, missing, visible, placed, outcome_at, NoSuchRow, is_free_use}

@@ -1,6 +1,6 @@
 -- The rows that a call ends and begins, in their slots, one after the other, and what is kept beside the slots.
 use Rattle.pref_core.proofs.Common.{◌≡◌, ℕ, zero, suc, ◌^◌, Bool, true, false, eqb, List, [], ◌∷◌, map, set, Option, Some, None, slice_get, refl, sym, ap, ap₂, ◌∙◌, arith, ⊎_elim}
-use Rattle.pref_core.proofs.Common.{AllByRecursion, map-set, slice_get-map, and_parts, eqb-true, cases_eq, true≢false, Version, Caller, SlotUse, Live, is_visible, IsWithin, EndsBy}
+use Rattle.pref_core.proofs.Common.{AllByRecursion, map-set, slice_get-map, and_parts, eqb-true, cases_eq, true≢false, Version, Caller, SlotUse, Live, is_visible, IsWithin}
 use Rattle.pref_core.proofs.Common.{close, close_at, use_of, is_row, row_at, IsPlaceOf, ids_of, id_at, AreIds, AreLinks, ◌+◌, subst, length_permutation, Call, Entry, State, changes_of, ended, begun}
 use Rattle.pref_core.proofs.Common.{added, missing, is_formed, Contents, StandsFor, visible, new_version, IsBounded, shown, IsTracked, AreFresh, ◌<◌, ◌&&◌, nat_eq, ◌++◌, length, drop, length-set}
 use Rattle.pref_core.proofs.Common.{is_some, get_or, get_or_from_slice_get, drop_all, length-map, map-set_same, slice_get_within, le-leb, cases_lt, or_parts, Free, among, has, Op}

@@ -2,7 +2,7 @@
 use Rattle.pref_core.proofs.Common.{map-append, ◌≡◌, ◌≤◌, ℕ, Bool, true, false, ◌&&◌, ◌||◌, List, [], ◌∷◌, ◌++◌, filter, length, Option, Some, None, is_some, refl, sym, ap, ap₂, ◌∙◌, cons_option, list_any, AllZip, list_any-IsPermutation}
 use Rattle.pref_core.proofs.Common.{IsPermutation-map, length-filter, eq-eqb, Version, Caller, Line, Key, same_key, holds_key, keys, different, State, Client, Snapshot, found_tables, needed, Contents, StandsFor, StandsForClient, Shows}
 use Rattle.pref_core.proofs.Common.{ShowsBegin, seen, visible, is_needed, begins, stamps, AreDifferent, used, list_any-append, arith, AllByRecursion, and_parts, eqb, eqb-true, or_parts, without, Change, Remove, begun_by, begins_any}
-use Rattle.pref_core.proofs.Common.{EndsNeedNoMore, suc, slice_get, slice_set, ⊎_elim, or_cases, or_left, or_right, count_by-le-length, Call, is_change, outcome, succeeds, committed, counted, after, NeededFits, NeededFitsSlots}
+use Rattle.pref_core.proofs.Common.{EndsNeedNoMore, suc, slice_get, slice_set, or_cases, or_left, or_right, count_by-le-length, Call, is_change, outcome, succeeds, committed, counted, after, NeededFits, NeededFitsSlots}
 use Rattle.std.proofs.lemmas.Map.Made.{length-from_same_keys, length-le_from_is_member}
 use Rattle.std.specs.Cmp.{IsEquivalence}
 use Rattle.std.specs.List.{IsDistinct}

@@ -1,7 +1,7 @@
 -- The opening slots stand for the opening state, and their links are those of their rows.
 use Rattle.pref_core.proofs.Common.{◌≡◌, ℕ, zero, suc, ◌+◌, ◌-◌, ◌^◌, ◌<◌, ◌≤◌, false, List, [], ◌∷◌, ◌++◌, length, replicate, Option, None, refl, sym, ap, ap₂, ◌∙◌, subst, arith, AllByRecursion, AllZip, IsPermutation, IsPermutation-refl}
 use Rattle.pref_core.proofs.Common.{append-nil, filter_map, length-append, length-replicate, filter_map-append, le-leb, Version, Caller, Row, holds_key, IsOrdered, opening, opening_table, idle_clients, Contents, StandsFor, StandsForClient}
-use Rattle.pref_core.proofs.Common.{seen, visible, slot_key, AreDifferent, IsWithin, opening_slots, IsKept, ◌%◌, cond, nat_lt, get_or, slice_index, Some, length-map, ids_of, home_of, id_at, AreLinked, AreLinks, AreOpening, opening_link}
+use Rattle.pref_core.proofs.Common.{seen, visible, slot_key, AreDifferent, IsWithin, opening_slots, IsKept, cond, nat_lt, get_or, Some, length-map, ids_of, id_at, AreLinks, AreOpening, opening_link}
 use Rattle.pref_core.proofs.SlotKeys.{slot_keys}
 use Rattle.std.proofs.Math.Nat.{mod-eq_of_lt}
 

@@ -1,8 +1,8 @@
-use Rattle.pref_core.proofs.Common.{◌≡◌, ◌+◌, ◌≤◌, ◌∷◌, ℕ, suc, List, Option, Some, None, drop, sym, ap, ap₂, ◌∙◌, subst, arith, ltb-true, Change, added_by, ended, slot_of, given, placed_rows}
+use Rattle.pref_core.proofs.Common.{◌≡◌, ℕ, Option, Some, sym, ap, ap₂, ◌∙◌, subst, arith, ltb-true, ended, slot_of, given, placed_rows}
 use Rattle.pref_core.proofs.Common.{change_of, changes_of, op_of}
 use Rattle.indexmap.specs.IndexMap.{spare}
-use Rattle.pref_core.proofs.ChangesLaws.{among_first, drop_at, drop_item}
-use Rattle.pref_core.proofs.IndexLaws.{AreThere, PlacesRest, adds_one, sets_one, removes_one, ended_there, rest_there}
+use Rattle.pref_core.proofs.ChangesLaws.{among_first}
+use Rattle.pref_core.proofs.IndexLaws.{AreThere, adds_one, sets_one, removes_one, ended_there, rest_there}
 use Rattle.pref_core.proofs.index.place_rows.Goals.{in-Add-Some, in-Set-Some, in-Remove-default}
 use Rattle.pref_core.proofs.index.place_rows.Goals as goal
 

@@ -1,7 +1,7 @@
-use Rattle.pref_core.proofs.Common.{◌≡◌, [], ◌∷◌, ◌++◌, length, drop, ap, ◌∙◌, arith, common_steps, sym, subst, length_push, step, replies_from, StandsForSystem}
+use Rattle.pref_core.proofs.Common.{◌≡◌, [], ◌∷◌, ◌++◌, length, drop, ap, ◌∙◌, arith, sym, subst, length_push, step, replies_from, StandsForSystem}
 use Rattle.std.proofs.lemmas.Iterator.Consumers.{YieldsList-turn}
 use Rattle.std.proofs.lemmas.Iterator.Adapters.{YieldsList-from_vec}
-use Rattle.pref_core.proofs.RepliesLaws.{event_is_left, reply_is_added, replies_step, one_reply_more}
+use Rattle.pref_core.proofs.RepliesLaws.{reply_is_added, replies_step, one_reply_more}
 use Rattle.pref_core.proofs.run.replay_part.Goals as goal
 
 pub loop-event-preserved : goal.loop-event-preserved

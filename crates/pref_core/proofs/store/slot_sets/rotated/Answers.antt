@@ -1,4 +1,4 @@
-use Rattle.pref_core.proofs.Common.{◌≡◌, ◌++◌, [], ◌∷◌, map, ap, ap₂, ◌∙◌, sym, arith, rules, range_with_len, map-range_with_len_more, rotated}
+use Rattle.pref_core.proofs.Common.{◌≡◌, ◌++◌, [], ◌∷◌, ap₂, ◌∙◌, sym, arith, rules, map-range_with_len_more, rotated}
 use Rattle.pref_core.proofs.OpeningSets.{low, high}
 use Rattle.pref_core.proofs.store.slot_sets.rotated.Goals.{then-at-back, else-at-back}
 use Rattle.pref_core.proofs.store.slot_sets.rotated.Goals as goal

@@ -1,7 +1,6 @@
 use Rattle.pref_core.proofs.Common.{◌+◌, ◌++◌, ◌∷◌, List, [], Option, drop, sym, ap, ◌∙◌, subst, arith, Version, Entry, begun_by, added_by, filled, stamps, changes_of, begun, change_of}
-use Rattle.pref_core.proofs.Common.{drop_all}
 use Rattle.pref_core.proofs.ChangesLaws.{added_one, begun_at}
-use Rattle.pref_core.proofs.FilledLaws.{BegunUpTo, BeginsNext, begins_next, begun_all, begun_one}
+use Rattle.pref_core.proofs.FilledLaws.{BegunUpTo, BeginsNext, begins_next, begun_one}
 use Rattle.pref_core.proofs.store.contents.Contents.begin_rows.Goals.{In-Some, in-Some, in_default}
 use Rattle.pref_core.proofs.store.contents.Contents.begin_rows.Goals as goal
 

@@ -1,5 +1,5 @@
 use Rattle.pref_core.proofs.Common.{◌≡◌, ◌-◌, ◌≤◌, length, map, sym, ap, ap₂, ◌∙◌, subst, arith, AllZip, with_items_is, uses_of, callers_after, refusal_at, MayBecome, use_of, Contents}
-use Rattle.pref_core.proofs.UsesAfterQuery.{callers_long, seated, uses_kept, uses_end}
+use Rattle.pref_core.proofs.UsesAfterQuery.{callers_long, uses_kept, uses_end}
 use Rattle.pref_core.proofs.store.contents.Contents.count.Goals as goal
 
 pub sweep-requires-clause-uses : goal.sweep-requires-clause-uses

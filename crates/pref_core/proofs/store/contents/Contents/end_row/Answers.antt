@@ -1,6 +1,5 @@
-use Rattle.pref_core.proofs.Common.{◌≡◌, ◌<◌, ◌≤◌, [], ◌∷◌, length, length-set, map, get_or, Some, sym, ap, ap₂, ◌∙◌, subst, arith, slice_get, slice_get_within}
-use Rattle.pref_core.proofs.Common.{get_or-set_same, Version, IsPlaceOf, IsTracked, StampedSlots, with_slots, close, number_of, use_of, Contents}
-use Rattle.pref_core.proofs.UsesAfterQuery.{use_few}
+use Rattle.pref_core.proofs.Common.{◌≡◌, ◌<◌, [], ◌∷◌, length, length-set, map, get_or, Some, sym, ap, ap₂, ◌∙◌, subst, arith, slice_get, slice_get_within}
+use Rattle.pref_core.proofs.Common.{get_or-set_same, Version, IsPlaceOf, IsTracked, StampedSlots, with_slots, close, use_of, Contents}
 use Rattle.pref_core.proofs.FilledLaws.{end_none, end_alive, end_slots, end_tracked}
 use Rattle.pref_core.proofs.SlotUseLaws.{row_version}
 use Rattle.pref_core.proofs.store.contents.Contents.end_row.Goals.{In-Some}

@@ -1,7 +1,7 @@
-use Rattle.pref_core.proofs.Common.{[], take_all, ◌≡◌, ◌+◌, ◌++◌, ℕ, suc, ◌∷◌, Bool, true, false, cond, take, drop, sym, ap, ◌∙◌, subst, arith, option_to_list, append-nil, ended_by, IsPlaceOf, frees_at}
-use Rattle.pref_core.proofs.Common.{begins, changes_of, ended, change_of, row_at}
-use Rattle.pref_core.proofs.ChangesLaws.{among_inside, ended_so_far, formed_apart, ended_first, ended_next}
-use Rattle.pref_core.proofs.FreedLaws.{FreesUpTo, frees_none, frees_one, frees_missing, freed_all, named_once}
+use Rattle.pref_core.proofs.Common.{[], ◌≡◌, ◌+◌, ◌++◌, ℕ, suc, ◌∷◌, Bool, true, false, cond, take, drop, sym, ap, ◌∙◌, subst, arith, option_to_list, append-nil, ended_by, IsPlaceOf, frees_at}
+use Rattle.pref_core.proofs.Common.{begins, changes_of, change_of, row_at}
+use Rattle.pref_core.proofs.ChangesLaws.{among_inside, ended_so_far, formed_apart, ended_next}
+use Rattle.pref_core.proofs.FreedLaws.{FreesUpTo, frees_none, frees_one, frees_missing, named_once}
 use Rattle.pref_core.proofs.store.contents.Contents.freed_places.Goals.{in-Some+in-Some-place_of+then-frees, in-Some+in-Some-place_of+else-frees, in_default}
 use Rattle.pref_core.proofs.store.contents.Contents.freed_places.Goals as goal
 

@@ -1,6 +1,5 @@
-use Rattle.pref_core.proofs.Common.{◌≡◌, ◌<◌, true, sym, subst, ◌∙◌, arith, common_steps, lt-ltb, FindsFreed, begins_row, changes_of, ended}
+use Rattle.pref_core.proofs.Common.{◌≡◌, ◌<◌, true, sym, subst, ◌∙◌, arith, common_steps, lt-ltb, begins_row, changes_of}
 use Rattle.pref_core.proofs.ChangesLaws.{begins_some}
-use Rattle.pref_core.proofs.ChosenSlots.{outcome_missing}
 use Rattle.pref_core.proofs.store.contents.Contents.outcome.Goals as goal
 
 pub returns-then-needed-capacity : goal.returns-then-needed-capacity

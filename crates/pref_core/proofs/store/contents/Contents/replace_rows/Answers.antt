@@ -1,6 +1,6 @@
-use Rattle.pref_core.proofs.Common.{List, Option, ◌+◌, drop, sym, subst, Version, KeepSlots, replaced, changes_of, change_of}
+use Rattle.pref_core.proofs.Common.{◌+◌, drop, sym, subst, KeepSlots, replaced, changes_of, change_of}
 use Rattle.pref_core.proofs.ChangesLaws.{drop_at}
-use Rattle.pref_core.proofs.ReplacedLaws.{ReplacesNext, ReplacedUpTo, replaces_next, replaced_one, sets_row}
+use Rattle.pref_core.proofs.ReplacedLaws.{ReplacedUpTo, replaced_one, sets_row}
 use Rattle.pref_core.proofs.store.contents.Contents.replace_rows.Goals.{In-Set, in-Set, in_default}
 use Rattle.pref_core.proofs.store.contents.Contents.replace_rows.Goals as goal
 

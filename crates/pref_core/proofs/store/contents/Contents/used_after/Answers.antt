@@ -1,4 +1,4 @@
-use Rattle.pref_core.proofs.Common.{arith, common_steps, ◌+◌, Some, refl, sym, ap, ◌∙◌, subst, ltb-true, slice_get-get_or, Contents, FitsNext, free_at, row_at, uses_of, change_of, Add, Set}
+use Rattle.pref_core.proofs.Common.{arith, common_steps, ◌+◌, Some, refl, sym, ap, ◌∙◌, subst, ltb-true, slice_get-get_or, FitsNext, free_at, uses_of, change_of, Add}
 use Rattle.pref_core.proofs.store.contents.Contents.used_after.Goals as goal
 
 pub returns-in-Add-Some : goal.returns-in-Add-Some

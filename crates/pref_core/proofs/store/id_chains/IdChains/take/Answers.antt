@@ -1,4 +1,4 @@
-use Rattle.pref_core.proofs.Common.{length, sym, ap, subst, ◌∙◌, arith, get_or_default_zero, common_steps, ids_of, AreLinks, ◌^◌, IsBefore, home_of, id_at, slice_index}
+use Rattle.pref_core.proofs.Common.{length, sym, ap, subst, ◌∙◌, arith, get_or_default_zero, ids_of, AreLinks, ◌^◌, IsBefore, home_of, id_at, slice_index}
 use Rattle.pref_core.proofs.IdChainsLaws.{row_shown, links_removed, within_at}
 use Rattle.pref_core.proofs.store.id_chains.IdChains.take.Goals as goal
 

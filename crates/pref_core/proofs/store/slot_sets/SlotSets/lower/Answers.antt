@@ -1,4 +1,4 @@
-use Rattle.pref_core.proofs.Common.{◌≡◌, refl, ◌+◌, ◌<◌, ◌∙◌, ap, map, length, get_or, slice_get, subst, set, arith, sym, with_items_is, numbered, use_at, IsInverse, moved_order, moved_positions}
+use Rattle.pref_core.proofs.Common.{refl, ◌+◌, ◌∙◌, ap, map, get_or, slice_get, set, numbered, use_at}
 use Rattle.pref_core.proofs.SlotSetsLaws.{arranged_same, lowers}
 use Rattle.pref_core.proofs.store.slot_sets.SlotSets.lower.Goals as goal
 

@@ -1,4 +1,4 @@
-use Rattle.pref_core.proofs.Common.{common_steps, ◌≡◌, ◌-◌, set, sym, ap, ◌∙◌, arith, SlotUse, number_of, numbered}
+use Rattle.pref_core.proofs.Common.{common_steps, ◌≡◌, set, sym, ap, ◌∙◌, arith, SlotUse, number_of, numbered}
 use Rattle.pref_core.proofs.SeatLaws.{set_same}
 use Rattle.pref_core.proofs.store.slot_sets.SlotSets.put.Goals as goal
 

@@ -1,5 +1,5 @@
-use Rattle.pref_core.proofs.Common.{◌≡◌, refl, ◌-◌, ◌<◌, ◌∙◌, suc, sym, subst, ap, map, length, get_or, slice_get, set, arith, with_items_is, numbered, use_at, IsInverse, moved_order, moved_positions}
-use Rattle.pref_core.proofs.SlotSetsLaws.{arranged_same, bound_some, raises}
+use Rattle.pref_core.proofs.Common.{refl, ◌-◌, ◌∙◌, suc, ap, map, get_or, slice_get, set, numbered, use_at}
+use Rattle.pref_core.proofs.SlotSetsLaws.{arranged_same, raises}
 use Rattle.pref_core.proofs.store.slot_sets.SlotSets.raise.Goals as goal
 
 pub invariant_of-self : goal.invariant_of-self

@@ -1,4 +1,4 @@
-use Rattle.pref_core.proofs.Common.{arith, common_steps, ◌+◌, Some, ap, sym, subst, ◌∙◌, slice_get-get_or, slot_of, IsPlaceOf, StampedSlots}
+use Rattle.pref_core.proofs.Common.{arith, common_steps, ◌+◌, Some, ap, sym, subst, ◌∙◌, slice_get-get_or, slot_of}
 use Rattle.pref_core.proofs.IndexedRows.{IsPlaceUpTo, place_at_end, place_past, place_put, row_at-hidden, row_at-empty}
 use Rattle.pref_core.proofs.store.stamped_slots.StampedSlots.index.Goals.{in-Some+then-is_visible_at+in_ok-put, in-Some+else-is_visible_at, in_default}
 use Rattle.pref_core.proofs.store.stamped_slots.StampedSlots.index.Goals as goal
