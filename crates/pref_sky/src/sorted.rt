@@ -86,21 +86,34 @@ impl Pruned {
     /// Which of those of the last level stands for all where one or two chains lead: the last one that an entry is not earlier than. A search
     /// by halves. Any number is right.
     fn candidate(&self, entry: &Entry) -> usize {
-        self.lowest
-            .partition_point(|item| {
-                item.place < self.entries.len()
-                    && self.order.compare(entry, &self.entries[item.place]).is_ge()
-            })
-            .saturating_sub(1)
+        let mut low = 0;
+        let mut high = self.lowest.len();
+        while low < high {
+            let middle = low + (high - low) / 2;
+            let other = &self.entries[self.lowest[middle].place];
+            if self.order.compare(entry, other).is_lt() {
+                high = middle;
+            } else {
+                low = middle + 1;
+            }
+        }
+        low.saturating_sub(1)
     }
 
     /// Where the group of an entry begins among those of the last level. A search by halves. Any number is right.
     fn group_begin(&self, entry: &Entry) -> usize {
-        let group = self.order.ask.group();
-        self.lowest.partition_point(|item| {
-            item.place < self.entries.len()
-                && compare_groups(group, &self.entries[item.place].row, &entry.row).is_lt()
-        })
+        let mut low = 0;
+        let mut high = self.lowest.len();
+        while low < high {
+            let middle = low + (high - low) / 2;
+            let other = &self.entries[self.lowest[middle].place];
+            if compare_groups(self.order.ask.group(), &other.row, &entry.row).is_lt() {
+                low = middle + 1;
+            } else {
+                high = middle;
+            }
+        }
+        low
     }
 
     /// Whether the one of the last level that stands somewhere among these dominates an entry.
