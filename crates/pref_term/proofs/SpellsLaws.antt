@@ -3,7 +3,6 @@ use Rattle.pref_term.proofs.Common.{◌≡◌, arith, ℕ, List, [], ◌∷◌, 
 use Rattle.pref_term.proofs.Common.{AllByRecursion, map-append, Token, finish, Placed, AskText, IsText, IsWritten, Leaf, token_of, ask_leaves, Names, tokens_in, tokens_on}
 use Rattle.pref_term.proofs.Common.{IsGood, own_fault, OwnFault, Starts, reported, reported_at, last_place, IsUnexpected, HasOwnFault, FirstFault, State, start}
 use Rattle.pref_term.proofs.Common.{done, read_of, next, run, led, judged, ended, TermFault, Unexpected}
-use Rattle.std.proofs.lemmas.Option.{same_Some}
 use Rattle.pref_term.proofs.GrammarSound.{next_grows, Grows}
 use Rattle.pref_term.proofs.GrammarComplete.{Reads, reads_on, reads_ask, can_end}
 
@@ -43,15 +42,10 @@ reads_cut s (leaf ∷ a) b n h = grind (arith, reads_cut h.0 a b n h.2)
 reads_past : (s : State) (a b rest : List Leaf) (m n : State) (t : Token) → Reads s a m → next m t ≡ None → tokens_on b ≡ tokens_on a ++ t ∷ [] → Reads s (b ++ rest) n → ⊥
 reads_past s [] [] rest m n t h none e k = cc
 reads_past s [] (y ∷ b) rest m n t h none e k =
-    let u : token_of y ≡ t = cc in
-    let stuck : next s (token_of y) ≡ None = ap (λ (x : State). next x (token_of y)) h ∙ (ap (next m) u ∙ none) in
-    let goes_on = sym k.1 ∙ stuck in cc
+    grind (arith, e, h, none, k.1)
 reads_past s (x ∷ a) [] rest m n t h none e k = cc
 reads_past s (x ∷ a) (y ∷ b) rest m n t h none e k =
-    let u : token_of x ≡ token_of y = cc in
-    let r : tokens_on b ≡ tokens_on a ++ t ∷ [] = cc in
-    let q : h.0 ≡ k.0 = ap (λ (r : Leaf × State). r.1) (same_Some _ _ (sym h.1 ∙ (ap (next s) u ∙ k.1))) in
-    reads_past h.0 a b rest m n t h.2 none r (subst (λ (z : State). Reads z (b ++ rest) n) (sym q) k.2)
+    grind (arith, e, h.1, k.1, k.2, none, reads_past h.0 a b rest m n t h.2)
 
 -- ---- what a reading so far knows
 
@@ -163,12 +157,7 @@ pub run_reads : (names : Names) (ts rest : List Placed) (p : ℕ) (s : State) (l
 run_reads names [] rest p s [] m h e good = ap (run names rest p) h
 run_reads names [] rest p s (leaf ∷ leaves) m h e good = cc
 run_reads names (t ∷ ts) rest p s [] m h e good = cc
-run_reads names (t ∷ ts) rest p s (leaf ∷ leaves) m h e good =
-    let u : token_of leaf ≡ t.token = cc in
-    let v : tokens_on leaves ≡ tokens_in ts = cc in
-    ap (led names p t.place (run names (ts ++ rest) t.place)) (ap (next s) (sym u) ∙ h.1)
-    ∙ (ap (judged leaf p t.place (run names (ts ++ rest) t.place h.0)) good.0
-    ∙ run_reads names ts rest t.place h.0 leaves m h.2 v good.1)
+run_reads names (t ∷ ts) rest p s (leaf ∷ leaves) m h e good = grind (arith, e, h.1, good.0, run_reads names ts rest t.place h.0 leaves m h.2)
 
 -- a text that is spelled is read
 pub spelt_run : (names : Names) (ts : List Placed) (tree : AskText) → Spelt names ts tree → run names ts 0 start ≡ Ok tree
