@@ -1,9 +1,9 @@
 -- What was read up to a state grows by the leaf of each token.
-use Rattle.pref_term.proofs.Common.{arith, ◌≡◌, ℕ, List, [], ◌∷◌, ◌++◌, Bool, true, false, Option, Some, None, refl, sym, ap, subst, ◌∙◌, append_assoc, append-nil, IfSome, find, bytes_eq}
+use Rattle.pref_term.proofs.Common.{arith, ◌≡◌, ℕ, List, [], ◌∷◌, ◌++◌, Bool, true, false, Option, refl, sym, ap, subst, ◌∙◌, append_assoc, append-nil, IfSome, find, bytes_eq}
 use Rattle.pref_term.proofs.Common.{str_to_ascii_lowercase, bytes_eq-Decides, left, right, comma, star, ampersand, left_brace, right_brace, Token, word, digits, sign, finish, Keyword}
 use Rattle.pref_term.proofs.Common.{CasedWord, skyline_word, of_word, min_word, max_word, diff_word, letters_of, outer_words, base_words, keyword_of}
 use Rattle.pref_term.proofs.Common.{cased_letters, cased_of, HeadText, DimText, dim_leaves, IsWritten, NumberText, PriorText, ProductText}
-use Rattle.pref_term.proofs.Common.{UnaryText, negated, based, Leaf, name, mark, column_name, cased, number_leaves, base_leaves, prior_leaves, product_leaves}
+use Rattle.pref_term.proofs.Common.{UnaryText, negated, Leaf, name, mark, column_name, cased, number_leaves, base_leaves, prior_leaves, product_leaves}
 use Rattle.pref_term.proofs.Common.{unary_leaves, token_of, signed_leaves, layered_word, SetText, set_leaves, NumberHole}
 use Rattle.pref_term.proofs.Common.{next_of, BasePart, columned, number_due, number_signed, listed, hole_leaves, part_leaves, BaseStep, part, whole_base, filled, base_next}
 use Rattle.pref_term.proofs.Common.{PriorHole, ProductHole, first_product, next_product, UnaryHole, first_factor, next_factor, in_minus, prior_depth, product_depth}
@@ -11,6 +11,7 @@ use Rattle.pref_term.proofs.Common.{unary_depth, before_prior, before_product, b
 use Rattle.pref_term.proofs.Common.{group_listed, skyline_named, dim_named, dims_listed, read_of, completed, outer, closed, begun, of_named, directed}
 use Rattle.pref_term.proofs.Common.{grouped_by, operand_word, carried, parted, finished, next, end_of, least_of, range_ended, in_pos, in_set, set_due}
 use Rattle.pref_term.proofs.Common.{sets_listed, after_commas, column_leaves, before_next, with_next, count_due}
+use Rattle.std.proofs.lemmas.Option.{IfSome_then}
 
 -- one more at the end of some
 after_last : {X : Type 0} (leaves : X → List Leaf) (xs : List X) (x : X) → after_commas leaves (xs ++ x ∷ []) ≡ after_commas leaves xs ++ mark comma ∷ leaves x
@@ -73,19 +74,13 @@ find_passes test [] = tt
 find_passes test (x ∷ xs) = grind (arith, find_passes test xs)
 
 pub keyword_letters : (letters : List ℕ) → IfSome (keyword_of letters) (λ k. letters_of k ≡ letters)
-keyword_letters letters = go (keyword_of letters) (find_passes (λ k. bytes_eq (letters_of k) letters) (outer_words ++ base_words))
-  where
-    go : (o : Option Keyword) → IfSome o (λ k. bytes_eq (letters_of k) letters ≡ true) → IfSome o (λ k. letters_of k ≡ letters)
-    go None h = tt
-    go (Some k) h = (bytes_eq-Decides (letters_of k) letters).0 h
+keyword_letters letters = IfSome_then (keyword_of letters) (find_passes (λ k. bytes_eq (letters_of k) letters) (outer_words ++ base_words)) (λ k. (bytes_eq-Decides (letters_of k) letters).0)
 
 -- the word that a search finds is written so
 pub cased_written : (letters : List ℕ) → IfSome (cased_of letters) (λ k. IsWritten (cased k letters))
-cased_written letters = go (cased_of letters) (find_passes (λ k. bytes_eq (cased_letters k) (str_to_ascii_lowercase letters)) (skyline_word ∷ of_word ∷ min_word ∷ max_word ∷ diff_word ∷ []))
-  where
-    go : (o : Option CasedWord) → IfSome o (λ k. bytes_eq (cased_letters k) (str_to_ascii_lowercase letters) ≡ true) → IfSome o (λ k. IsWritten (cased k letters))
-    go None h = tt
-    go (Some k) h = (bytes_eq-Decides (cased_letters k) (str_to_ascii_lowercase letters)).0 h
+cased_written letters =
+    let passes = find_passes (λ k. bytes_eq (cased_letters k) (str_to_ascii_lowercase letters)) (skyline_word ∷ of_word ∷ min_word ∷ max_word ∷ diff_word ∷ []) in
+    IfSome_then (cased_of letters) passes (λ k. (bytes_eq-Decides (cased_letters k) (str_to_ascii_lowercase letters)).0)
 
 begun_grows : (letters : List ℕ) (o : Option Keyword) (c : Option CasedWord) → IfSome o (λ k. letters_of k ≡ letters) → IfSome c (λ k. IsWritten (cased k letters)) → IfSome (begun letters o c) (λ r. Grows (read_of start) (word letters) r.0 (read_of r.1))
 begun_grows letters o c h w = grind (arith)
@@ -111,9 +106,7 @@ operand_word_grows : (h : UnaryHole) (o : Option Keyword) (letters : List ℕ) �
 operand_word_grows h o letters e = grind (arith)
 
 carried_grows : (h : UnaryHole) (b : BasePart) (t : Token) (o : Option (Leaf × BaseStep)) → IfSome o (λ r. Grows (part_leaves b) t r.0 (step_leaves r.1)) → IfSome (carried h o) (λ r. Grows (before_unary h ++ part_leaves b) t r.0 (read_of r.1))
-carried_grows h b t None e = tt
-carried_grows h b t (Some (leaf, part c)) e = (e.0, ap (λ ls. before_unary h ++ ls) e.1 ∙ simp append_assoc, e.2)
-carried_grows h b t (Some (leaf, whole_base c)) e = (e.0, completed_read h (based c) ∙ (ap (λ ls. before_unary h ++ ls) e.1 ∙ simp append_assoc), e.2)
+carried_grows h b t o e = grind (arith, append_assoc, completed_read)
 
 parted_grows : (h : PriorHole) (r : PriorText) → IfSome (parted h r) (λ x. Grows (before_prior h ++ prior_leaves r (prior_depth h)) (sign right) x.0 (read_of x.1))
 parted_grows h r = grind (arith, append_assoc, completed_read)
