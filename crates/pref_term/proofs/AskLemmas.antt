@@ -1,7 +1,7 @@
 -- What the parts of the reader promise that read what stands around a term, and skyline clauses.
 use Rattle.pref_term.proofs.Common.{◌≡◌, arith, ℕ, List, [], ◌∷◌, ◌++◌, length, map, Bool, true, false, Option, Some, None, Ok, refl, sym, ap, subst, ◌∙◌, append-nil, All, IfSome, cond}
 use Rattle.pref_term.proofs.Common.{All-append, comma, word, digits, sign, finish, Placed, best_word, by_word, keyword_of, skyline_word, of_word}
-use Rattle.pref_term.proofs.Common.{cased_of, Direction, minimal, maximal, different, direction_word, DimText, HeadText, best_head, PriorText}
+use Rattle.pref_term.proofs.Common.{cased_of, Direction, direction_word, DimText, HeadText, best_head, PriorText}
 use Rattle.pref_term.proofs.Common.{AskText, name, column_name, count_digits, cased, last, Names, column_at, mode_of, order_by, group_by, orders_of, groups_of, product_of, bad_count}
 use Rattle.pref_term.proofs.Common.{State, start, operand, whole, in_whole, ranked, group_due, skyline_named, dim_due, dim_named, run, done}
 use Rattle.pref_term.proofs.Common.{directed, begun, of_named, next, meant, Goes, Fails, Passes, IsKnown, IsTermOf, NotNext, IsOther}
@@ -89,8 +89,7 @@ fails_asks names distinct s ts f h = record { asks = λ p. unless_map f (λ k. a
 
 -- what a `?` hands on
 pub asks_exit : {names : Names} {distinct : Bool} {s : State} {ts : List Placed} {f : TermFault} (r : Result Question TermFault) → IsErrAnd r (λ g. g ≡ f) → Asks names distinct s ts (Err f) → Asks names distinct s ts r
-asks_exit (Ok q) e h = absurd e
-asks_exit (Err g) e h = rw e h
+asks_exit r e h = grind (arith, e, h)
 
 pub rated_read : (names : Names) (ts us : List Placed) (p : Preference) (group : List ℕ) (mode : Mode) → ReadsPrior names 0 ts p us → ReadsGrouping names us group → (head : HeadText) → mode_of head ≡ mode → Asks names false (operand (in_whole head)) ts (Ok (record { preference = p; group = group; mode = mode; distinct = false }))
 rated_read names ts us p group mode r g head e =
@@ -133,9 +132,7 @@ product_known_more : (names : Names) (product : Option Preference) (d : Directio
 product_known_more names product d col k h = grind (arith)
 
 group_known_more : (names : Names) (group : List ℕ) (d : Direction) (col : ℕ) → IsKnown names col → All (IsKnown names) group → All (IsKnown names) (group ++ group_by d col)
-group_known_more names group minimal col k h = subst (All (IsKnown names)) (sym (append-nil group)) h
-group_known_more names group maximal col k h = subst (All (IsKnown names)) (sym (append-nil group)) h
-group_known_more names group different col k h = All-append (IsKnown names) group (col ∷ []) h (all_one (IsKnown names) col k)
+group_known_more names group d col k h = grind (arith, append-nil, h, All-append (IsKnown names) group (col ∷ []) h (all_one (IsKnown names) col k))
 
 orders_more : (names : Names) (dims : List DimText) (dim : DimText) (product : Option Preference) (d : Direction) (col : ℕ) → product_of (orders_of names dims) ≡ product → dim.direction ≡ d → column_at names dim.column ≡ col → product_of (orders_of names (dims ++ dim ∷ [])) ≡ with_order product d col
 orders_more names dims dim product d col e f g = grind (arith, flat_map-append, product_more)

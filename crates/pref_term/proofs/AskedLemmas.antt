@@ -1,8 +1,8 @@
 -- The ask that is computed is the one that the text spells, and the fault the one that it has.
-use Rattle.pref_term.proofs.Common.{◌≡◌, ◌≤◌, ◌<◌, ◌+◌, ℕ, zero, suc, List, [], ◌∷◌, Bool, false, length, None, Result, Ok, Err, refl, sym, ap, subst, ◌∙◌, ◌⊎◌, inl}
+use Rattle.pref_term.proofs.Common.{◌≡◌, ◌≤◌, ◌<◌, ◌+◌, ℕ, zero, suc, List, [], ◌∷◌, Bool, false, length, None, Result, Ok, Err, refl, sym, ap, subst, ◌∙◌, inl}
 use Rattle.pref_term.proofs.Common.{inr, arith, MatchResult, IfOk, IfErr, nat_tests, Placed, more_bytes, tokens_from, tokens_of, plain, says_distinct}
-use Rattle.pref_term.proofs.Common.{AskText, Names, Spells, Faults, LacksOrder, FirstFault, UnlessMemory}
-use Rattle.pref_term.proofs.Common.{question, Question, FitsWidth, start, run, ordered, meant, asked, TermFault, TooLong, NoMinOrMax, AsksWhole, Gives}
+use Rattle.pref_term.proofs.Common.{AskText, Names, Spells, Faults, UnlessMemory}
+use Rattle.pref_term.proofs.Common.{question, Question, FitsWidth, start, run, ordered, meant, asked, TermFault, TooLong, AsksWhole, Gives}
 use Rattle.pref_term.proofs.LedLemmas.{unless_map}
 use Rattle.pref_term.proofs.SpellsLaws.{Finishes, Due, Spelt, Answers, run_answers, spelt_run, fault_run}
 use Rattle.std.proofs.Common.{rules}
@@ -63,13 +63,11 @@ spelled_asked names text q s =
 
 pub fault_asked : (names : Names) (text : List ℕ) (f : TermFault) → Faults names text f → asked names text ≡ Err f
 fault_asked names text f (inl h) = asked_long names text h.0 ∙ ap Err (sym h.1)
-fault_asked names text f (inr h) = asked_short names text h.0 ∙ go h.1
-  where
-    go : FirstFault names (plain (tokens_of text)) f ⊎ (LacksOrder names (plain (tokens_of text)) × (f ≡ NoMinOrMax)) → meant names (says_distinct (tokens_of text)) (run names (plain (tokens_of text)) 0 start) ≡ Err f
-    go (inl k) = ap (meant names (says_distinct (tokens_of text))) (fault_run names (plain (tokens_of text)) f k)
-    go (inr k) =
-        ap (meant names (says_distinct (tokens_of text))) (spelt_run names (plain (tokens_of text)) k.0.tree (record { written = k.0.written; tokens_are = k.0.played; good = k.0.good }))
-        ∙ (ap ordered (none_anyway names false (says_distinct (tokens_of text)) k.0.tree k.0.none) ∙ ap Err (sym k.1))
+fault_asked names text f (inr (short, inl h)) = asked_short names text short ∙ ap (meant names (says_distinct (tokens_of text))) (fault_run names (plain (tokens_of text)) f h)
+fault_asked names text f (inr (short, inr h)) =
+    asked_short names text short
+    ∙ (ap (meant names (says_distinct (tokens_of text))) (spelt_run names (plain (tokens_of text)) h.0.tree (record { written = h.0.written; tokens_are = h.0.played; good = h.0.good }))
+    ∙ (ap ordered (none_anyway names false (says_distinct (tokens_of text)) h.0.tree h.0.none) ∙ ap Err (sym h.1)))
 
 -- ---- one reading
 

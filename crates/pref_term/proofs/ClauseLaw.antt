@@ -84,9 +84,7 @@ module _ (names : Names) (schema : schema_of names ≡ Ok names) where
 
   diffs_meaning : (cs : List ℕ) → All (λ col. col < length names) cs → (orders_of names (map (diff_dim names) cs) ≡ []) × (groups_of names (map (diff_dim names) cs) ≡ cs)
   diffs_meaning [] h = (refl, refl)
-  diffs_meaning (c ∷ cs) h =
-      let others = diffs_meaning cs (All-tail (λ col. col < length names) c cs h) in
-      (others.0, grind (arith, column_same names schema c (All-head (λ col. col < length names) c cs h), others.1))
+  diffs_meaning (c ∷ cs) h = grind (arith, h, diffs_meaning cs (All-tail (λ col. col < length names) c cs h), column_same names schema c (All-head (λ col. col < length names) c cs h))
 
   -- ---- the clause
 

@@ -86,8 +86,7 @@ pub ranked_whole : (head : HeadText) (r : PriorText) → next (ranked (whole hea
 ranked_whole head r = grind arith
 
 pub ranked_by : (head : HeadText) (r : PriorText) → next (ranked (whole head) r) (word (letters_of by_word)) ≡ Some (name by_word, group_due head r [])
-ranked_by head (one_product p) = refl
-ranked_by head (then_product r p) = refl
+ranked_by head r = grind arith
 
 mutual
   pub reads_prior : (r : PriorText) (h : PriorHole) → Reads (operand (first_factor (first_product h))) (prior_leaves r (prior_depth h)) (ranked h r)
@@ -131,8 +130,7 @@ differ : (x y : List ℕ) → bytes_eq x y ≡ false → x ≡ y → ⊥
 differ x y f e = let g : bytes_eq x y ≡ true = (bytes_eq-Decides x y).1 e in cc
 
 cased_itself : (k : CasedWord) → cased_in (cased_letters k) ≡ Some k
-cased_itself skyline_word = refl
-cased_itself _ = refl
+cased_itself k = grind arith
 
 pub cased_found : (k : CasedWord) (letters : List ℕ) → IsWritten (cased k letters) → cased_of letters ≡ Some k
 cased_found k letters w = ap cased_in (sym w) ∙ cased_itself k
