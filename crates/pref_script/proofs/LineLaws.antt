@@ -84,16 +84,14 @@ little_left from text little = grind (arith, length-drop, get_or-drop)
 
 -- ---- a line
 
--- the line that was found ends too far away
-long_some : (text : List ℕ) (from place : ℕ) → IsFirstByte (is_byte 10) (drop from text) (Some place) → 16777216 < from + place + 1 → IsLong from text
-long_some text from place found long = grind (arith, at_place, length-drop)
+-- the line that a line feed ends, which was searched for behind the line's begin
+pub whole_on : (a : ReadAhead) (from seen place : ℕ) → from ≤ seen → NoLineFeed from seen (unread a) → IsFirstByte (is_byte 10) (drop seen (unread a)) (Some place) → IsLineAt from (seen + place + 1) a
+whole_on a from seen place later none found =
+    subst (λ (end : ℕ). IsLineAt from end a) (omega (arith, later)) (whole_at a from (seen - from + place) (first_on (unread a) from seen place later none found))
 
--- the same of a search that began behind the line's begin
-pub whole_on : (a : ReadAhead) (from seen place end : ℕ) → from ≤ seen → NoLineFeed from seen (unread a) → IsFirstByte (is_byte 10) (drop seen (unread a)) (Some place) → end ≡ seen + place + 1 → IsLineAt from end a
-whole_on a from seen place end later none found is = subst (λ (n : ℕ). IsLineAt from n a) (omega (arith, later, is)) (whole_at a from (seen - from + place) (first_on (unread a) from seen place later none found))
-
+-- the same line, where it ends too far away
 pub long_on : (text : List ℕ) (from seen place : ℕ) → from ≤ seen → NoLineFeed from seen text → IsFirstByte (is_byte 10) (drop seen text) (Some place) → 16777216 < seen + place + 1 → IsLong from text
-long_on text from seen place later none found long = long_some text from (seen - from + place) (first_on text from seen place later none found) (omega (arith, later, long))
+long_on text from seen place later none found long = grind (arith, first_on text from seen place later none found, at_place, length-drop)
 
 -- no line end was found, and more is there than a line has
 pub long_none : (from : ℕ) (text : List ℕ) → NoLineFeed from (length text) text → 16777216 < length text → IsLong from text

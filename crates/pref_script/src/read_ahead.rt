@@ -102,7 +102,6 @@ impl ReadAhead {
     ///
     /// No byte is read where the line is there already, and none after the read that brought its end, which brings at most 8,192 bytes.
     /// Refused `TooLarge` where the line ends behind 16,777,216 bytes.
-    #[tactic(auto, using(crate::proofs::ExitLaws::exits))]
     pub fn read_line<R: Read>(
         &mut self,
         alloc: Global,

@@ -1,5 +1,4 @@
-use Rattle.pref_script.proofs.Common.{◌≡◌, ◌∙◌, ◌<◌, ◌⊎◌, true, inl, inr, ap, arith, length, length-append, rules, IfOk-weaker, is_at_end, take_rest, unread}
-use Rattle.std.proofs.lemmas.Result.{IfErr-weaker}
+use Rattle.pref_script.proofs.Common.{ap, arith, exits, length, length-append, rules, take_rest, unread}
 use Rattle.pref_script.proofs.LineLaws.{behind_more, last_within, little_behind, long_none, long_on, none_in_front, none_on, once_more, some_behind, whole_on}
 use Rattle.pref_script.proofs.read_ahead.ReadAhead.read_line.Goals as goal
 
@@ -20,46 +19,26 @@ loop-place-preserved g c =
       little = λ _. little_behind _ _ _ _ c.args.from read none (grind arith) c.in_ok-read_more.ensures.few;
     }
 
-pub returns-in-Some-clause-behind : goal.returns-in-Some-clause-behind
-returns-in-Some-clause-behind g c = IfOk-weaker c.end_within.result _ _ (λ _ _. c.loop-place.invariant.behind) c.end_within.ensures.ok
-
-pub returns-in-Some-clause-line : goal.returns-in-Some-clause-line
-returns-in-Some-clause-line g c =
+pub returns-in-Some : goal.returns-in-Some
+returns-in-Some g c =
     let so_far = c.loop-place.invariant in
     let all = unread c.loop-place.self in
     let found = rw (take_rest all c.loop-place.seen) at (rw c.as_slice.ensures at c.in-Some.ensures) in
-    IfOk-weaker c.end_within.result _ _ (λ end (is, most). whole_on c.loop-place.self c.args.from c.loop-place.seen c.in-Some.place end so_far.later so_far.none found is) c.end_within.ensures.ok
+    let line = whole_on c.loop-place.self c.args.from c.loop-place.seen c.in-Some.place so_far.later so_far.none found in
+    grind (arith, line, long_on all c.args.from c.loop-place.seen c.in-Some.place so_far.later so_far.none found, some_behind _ _ _ _ c.args.from so_far.behind so_far.little)
 
-pub returns-in-Some-clause-fault : goal.returns-in-Some-clause-fault
-returns-in-Some-clause-fault g c =
-    let so_far = c.loop-place.invariant in
-    let all = unread c.loop-place.self in
-    let found = rw (take_rest all c.loop-place.seen) at (rw c.as_slice.ensures at c.in-Some.ensures) in
-    IfErr-weaker c.end_within.result _ _ (λ why (is, long). rw is (so_far.behind, long_on all c.args.from c.loop-place.seen c.in-Some.place so_far.later so_far.none found long)) c.end_within.ensures.fault
-
-pub returns-in-Some-clause-read : goal.returns-in-Some-clause-read
-returns-in-Some-clause-read g c = some_behind _ _ _ _ c.args.from c.loop-place.invariant.behind c.loop-place.invariant.little
-
-pub returns-then-self-clause-line : goal.returns-then-self-clause-line
-returns-then-self-clause-line g c =
+pub returns-then-self : goal.returns-then-self
+returns-then-self g c =
     let so_far = c.loop-place.invariant in
     let all = unread c.loop-place.self in
     let none = none_on c.args.from c.loop-place.seen all so_far.none (rw (take_rest all c.loop-place.seen) at (rw c.as_slice.ensures at c.in_default.ensures)) in
-    let size = ap length c.as_slice-seen.ensures in
-    let over : (is_at_end c.loop-place.self ≡ true) ⊎ (16777216 < length all) = elim c.then-self.either [ inl ended ↦ inl ended | inr (goes_on, long) ↦ inr (omega (arith, size, long)) ] in
-    IfOk-weaker c.end_within-then-self.result _ _ (λ end (is, most). last_within c.loop-place.self c.args.from end (omega (arith, so_far.later, so_far.inside)) none over (is ∙ size) (omega (arith, is, most))) c.end_within-then-self.ensures.ok
+    grind (arith, last_within c.loop-place.self c.args.from, none, long_none c.args.from all none, some_behind _ _ _ _ c.args.from so_far.behind so_far.little)
 
-pub returns-then-self-clause-fault : goal.returns-then-self-clause-fault
-returns-then-self-clause-fault g c =
-    let so_far = c.loop-place.invariant in
+pub returns-in_err-read_more : goal.returns-in_err-read_more
+returns-in_err-read_more g c =
     let all = unread c.loop-place.self in
-    let none = none_on c.args.from c.loop-place.seen all so_far.none (rw (take_rest all c.loop-place.seen) at (rw c.as_slice.ensures at c.in_default.ensures)) in
-    let size = ap length c.as_slice-seen.ensures in
-    IfErr-weaker c.end_within-then-self.result _ _ (λ why (is, long). rw is (so_far.behind, long_none c.args.from all none (omega (arith, size, long)))) c.end_within-then-self.ensures.fault
+    let none = none_on c.args.from c.loop-place.seen all c.loop-place.invariant.none (rw (take_rest all c.loop-place.seen) at (rw c.as_slice.ensures at c.in_default.ensures)) in
+    grind (arith, exits, once_more _ _ _ _ _ c.args.from c.loop-place.invariant.behind c.read_more.ensures.read none (grind arith))
 
-pub returns-in_err-read_more-clause-read : goal.returns-in_err-read_more-clause-read
-returns-in_err-read_more-clause-read g c =
-    let so_far = c.loop-place.invariant in
-    let all = unread c.loop-place.self in
-    let none = none_on c.args.from c.loop-place.seen all so_far.none (rw (take_rest all c.loop-place.seen) at (rw c.as_slice.ensures at c.in_default.ensures)) in
-    once_more _ _ _ _ _ c.args.from so_far.behind c.read_more.ensures.read none (grind arith)
+pub loop-place-smaller : goal.loop-place-smaller
+loop-place-smaller g c = grind (arith, length-append (unread c.loop-place.self) c.in_ok-read_more.ensures.ok.bytes)
