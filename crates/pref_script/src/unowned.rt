@@ -65,7 +65,6 @@ fn push_unowned(
 
 /// The text of the lines that belong to no client, in order of the script: refused ones, and those of clients that do not exist. These are the
 /// clients' parts once their acts are done. If each line that is not blank went to a part and all parts are whole, there are no such lines.
-#[tactic(auto, using(crate::proofs::ExitLaws::exits))]
 pub fn unowned_text(
     alloc: Global,
     schema: &Schema,

@@ -17,5 +17,8 @@ pub returns-clause-returned : goal.returns-clause-returned
 unfolding commands_of texts
 returns-clause-returned c = sym (append-nil _) ∙ (rw (lines_empty c.loop-left.left.now (grind arith)) at c.loop-left.invariant.returned)
 
-pub returns-in_err-push_unowned-clause-memory : goal.returns-in_err-push_unowned-clause-memory
-returns-in_err-push_unowned-clause-memory c = rw (exits c.from_residual.result c.from_residual.ensures.1) c.in_err-push_unowned.ensures.memory
+pub returns-in_err-push_unowned : goal.returns-in_err-push_unowned
+returns-in_err-push_unowned c = grind (arith, exits)
+
+pub loop-left-smaller : goal.loop-left-smaller
+loop-left-smaller c = omega (arith, ap length c.cut_line.ensures.whole, length-append c.cut_line.result.0.now c.cut_line.result.1.now, c.cut_line.ensures.some)
