@@ -53,13 +53,6 @@ ops_prefix page xs ys p = (ops_on page p.0, sym (ops_on-append page xs p.0) ∙ 
 pub length_prefix : {A : Type 0} (xs ys : List A) → IsPrefix xs ys → length xs ≤ length ys
 length_prefix xs ys p = omega (arith, length-append xs p.0, ap length p.1)
 
--- an entry of another page changes nothing on this one
-noted_other : (page : ℕ) (e : Entry) → (e.page == page) ≡ false → noted page e ≡ []
-noted_other page e other = rw other refl
-
-key_other : (page : ℕ) (key : Option ℕ) (e : Entry) → (e.page == page) ≡ false → key_by page key e ≡ key
-key_other page key e other = rw other refl
-
 key_own : (page : ℕ) (key : Option ℕ) (e : Entry) → e.page ≡ page → key_by page key e ≡ Some e.key
 key_own page key e own = rw (eq-eqb e.page page own) refl
 
