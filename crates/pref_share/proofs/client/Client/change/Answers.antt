@@ -1,5 +1,5 @@
 use Rattle.pref_share.proofs.Common.{◌≡◌, suc, ◌+◌, length, None, refl, sym, subst, ap, ◌∙◌, arith, Standing, own_refusal, Core, IsPageOf, Joins}
-use Rattle.pref_share.proofs.RefusalReplies.{passed_on, refuses_change}
+use Rattle.pref_share.proofs.RefusalReplies.{passed_on}
 use Rattle.pref_share.proofs.StandingLaws.{joins, only_memory, stands_changed, change_returned, success_returned}
 use Rattle.pref_share.proofs.client.Client.change.Given.{Over}
 use Rattle.pref_share.proofs.client.Client.change.Goals.{In_default, In_ok-seen}
@@ -47,7 +47,3 @@ returns-in_err-seen-clause-refused g c =
     let let_in = accepted g (goal.at.returns-in_err-seen-clause-refused g c).In_default in
     let memory = only_memory o _ _ c.args.call fault c.self.invariant.2 c.self.invariant.3.counted let_in c.in_err-seen.ensures.refused in
     rw (← c.self.view_is) (passed_on c.from_residual.result (Core fault) _ c.from_residual.ensures.1 (rw memory.0 (memory.1, let_in, refl)))
-
-pub returns-in-Some-clause-refused : goal.returns-in-Some-clause-refused
-returns-in-Some-clause-refused g c =
-    refuses_change g.J.BoardBrand.opening c.args.self.now c.args.call c.in-Some.fault c.requires.change (ap (own_refusal c.args.self.now) (sym c.lend.ensures) ∙ sym c.refusal.ensures ∙ c.in-Some.is)

@@ -1,9 +1,9 @@
-use Rattle.pref_share.proofs.Common.{rules, arith, ◌≡◌, ◌++◌, List, map, Option, Result, Some, refl, sym, subst, ap, ◌∙◌, Vec, IsPrefix, Op, CoreFault, next_block, Contents, Opening, IsLegalFrom}
+use Rattle.pref_share.proofs.Common.{rules, ◌≡◌, ◌++◌, List, map, Option, Result, Some, refl, sym, subst, ap, ◌∙◌, Vec, IsPrefix, Op, CoreFault, next_block, Contents, Opening, IsLegalFrom}
 use Rattle.pref_share.proofs.Common.{calls_at, contents_at, Asking, Standing, IsPageOf, IsTurn, Stands, count_by, length, ◌≤◌}
 use Rattle.pref_sky.specs.declared.entry.Entry.{Entry}
 use Rattle.pref_sky.specs.Levels.{HaveDifferentIds, entry_of}
-use Rattle.pref_core.specs.Scans.{Scan, Reads, IsAdded}
-use Rattle.pref_share.proofs.StandingLaws.{even, next_new, stands_seen, stands_scanned, sees}
+use Rattle.pref_core.specs.Scans.{Reads, IsAdded}
+use Rattle.pref_share.proofs.StandingLaws.{even, next_new, stands_scanned, sees}
 use Rattle.pref_share.proofs.ViewsLaws.{still_knows}
 use Rattle.pref_share.proofs.client.Client.scan.Given.{Over}
 use Rattle.pref_share.proofs.client.Client.scan.Goals.{After-deref}
@@ -59,18 +59,6 @@ returns-in-Ok-add-clause-scanned g c =
     rw (← (c.self.view_is))
     (record { asking = _; is_open = r.query; after = c.add.new.self; query = refl; left_is = c.in-Ok-add.ensures.0; scans = added; further = r.further; legal = r.legal; alone = r.alone; counted = refl; same = refl })
 
-pub invariant_of-self-2 : goal.invariant_of-self-2
-invariant_of-self-2 g c =
-    let o = g.J.BoardBrand.opening in
-    let s = c.self.inside in
-    let r = is_read g (goal.at.invariant_of-self-2 g c).After-deref in
-    let kept : c.add.new.self ≡ c.asking.inside.query = c.in-Err.ensures.0 in (
-      still_knows c.read-found.ensures.view c.self.invariant.0,
-      c.self.invariant.1,
-      subst (λ (x : Scan). Stands o s.number s.counter c.in-Some-found.now (Some (record { scan = x; at_begin = c.asking.inside.at_begin }))) (sym kept) (stands_seen o _ _ _ _ _ r.stands r.further r.legal),
-      page_stays g (goal.at.invariant_of-self-2 g c).After-deref,
-    )
-
 pub returns-clause-refused : goal.returns-clause-refused
 returns-clause-refused g c =
     let r = is_read g (goal.at.returns-clause-refused g c).After-deref in
@@ -81,15 +69,3 @@ returns-clause-refused g c =
 
 pub returns-in_default-clause-refused : goal.returns-in_default-clause-refused
 returns-in_default-clause-refused g c = rw (← c.self.view_is) (c.in_default.is, refl)
-
-pub returns-then-left-eq0-clause-refused : goal.returns-then-left-eq0-clause-refused
-returns-then-left-eq0-clause-refused g c =
-    let s = c.self.inside in
-    let query : s.asking ≡ Some (record { scan = c.asking.inside.query; at_begin = c.asking.inside.at_begin }) = c.in-Some.is ∙ ap Some (sym c.asking.view_is) in
-    rw (← c.self.view_is) (record { asking = _; is_open = query; done = sym c.left.ensures ∙ c.if-left-eq0.true }, λ i. record { number = s.number; counter = s.counter; seen = s.seen; query = sym c.in-Some.is i })
-
-pub returns-in_default-found-clause-refused : goal.returns-in_default-found-clause-refused
-returns-in_default-found-clause-refused g c =
-    let s = c.self.inside in
-    let query : s.asking ≡ Some (record { scan = c.asking.inside.query; at_begin = c.asking.inside.at_begin }) = c.in-Some.is ∙ ap Some (sym c.asking.view_is) in
-    rw (← c.self.view_is) ((c.left.result, record { asking = _; is_open = query; left_is = c.left.ensures; some = omega arith }), λ i. record { number = s.number; counter = s.counter; seen = s.seen; query = sym c.in-Some.is i })
