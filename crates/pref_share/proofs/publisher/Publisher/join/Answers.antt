@@ -10,7 +10,7 @@ use Rattle.pref_share.specs.Book.{ops_of, ops_on}
 use Rattle.pref_share.proofs.CallCounts.{few_ops}
 use Rattle.pref_share.proofs.HistoryLaws.{legal-more, legal_is_history, ran-append, planned, unplanned}
 use Rattle.pref_share.proofs.ViewsLaws.{published_left, published_next}
-use Rattle.std.proofs.lemmas.Result.{IfOk-from_err, err_from_is_err_and}
+use Rattle.std.proofs.lemmas.Result.{err_from_is_err_and}
 use Rattle.pref_share.proofs.publisher.Publisher.join.Given.{Over}
 use Rattle.pref_share.proofs.publisher.Publisher.join.Goals.{After-entries, After-published_store-store, In-Ok}
 use Rattle.pref_share.proofs.publisher.Publisher.join.Goals as goal
@@ -43,34 +43,6 @@ returns-in-Err-clause-refused g c =
     let left = store_left g (goal.at.returns-in-Err-clause-refused g c).After-published_store-store in
     subst (λ (l : List Op). (refusal (state_at o l) c.args.client c.args.call ≡ Some c.in-Err.fault) ⊎ ((c.in-Err.fault ≡ OutOfMemory) × (nat_lt 0 (added c.args.call) ≡ true))) c.self.view_is
     (inl (ap (refusal (state_at o c.self.inside.page.ops) c.args.client) (sym c.lend-lent.ensures) ∙ unplanned o c.self.inside.page.ops c.published_store-store.result.now c.args.client c.lend-lent.result c.in-Err.fault c.self.invariant.2 left c.in-Err.ensures.state))
-
-pub invariant_of-self : goal.invariant_of-self
-invariant_of-self g c =
-    let left = store_left g (goal.at.invariant_of-self g c).After-published_store-store in (
-      c.self.invariant.0,
-      c.self.invariant.1,
-      c.self.invariant.2,
-      subst (λ (s : Contents). IsIndexOf s c.reindex.new.index) left c.in_err-reindex.ensures.same,
-      c.self.invariant.4,
-      c.self.invariant.5,
-      c.self.invariant.6,
-      c.self.invariant.7,
-    )
-
-pub add-requires-clause-page : goal.add-requires-clause-page
-add-requires-clause-page g c =
-    let by = (plan g (goal.at.add-requires-clause-page g c).In-Ok (store_left g (goal.at.add-requires-clause-page g c).After-published_store-store)).0 in
-    rw (by, c.self.invariant.1) c.requires.page
-
-pub add-requires-clause-few : goal.add-requires-clause-few
-add-requires-clause-few g c =
-    let by = (plan g (goal.at.add-requires-clause-few g c).In-Ok (store_left g (goal.at.add-requires-clause-few g c).After-published_store-store)).0 in
-    rw (by, c.self.view_is) c.requires.few
-
-pub returns-clause-page : goal.returns-clause-page
-returns-clause-page g c =
-    let by = (plan g (goal.at.returns-clause-page g c).In-Ok (store_left g (goal.at.returns-clause-page g c).After-published_store-store)).0 in
-    rw (← by, ← c.self.invariant.1) c.add.ensures.page
 
 -- the stamp of the call
 abbrev stamp_of : (g : Over) → After-entries g → Stamp
@@ -129,16 +101,6 @@ returns-clause-joined g c =
     subst (λ (l : List Op). IsAppended o l c.args.client c.args.call c.in-Ok.op.outcome c.add.new.self.ops) c.self.view_is
     (record { op = op_of c.in-Ok.op; by = plan.0; what = plan.1; outcome = refl; may = plan.2; ends = c.add.ensures.added })
 
-pub look_up-requires : goal.look_up-requires
-look_up-requires g c =
-    let left = store_left g (goal.at.look_up-requires g c).After-published_store-store in
-    subst (λ (s : Contents). IsIndexOf s c.self.inside.index) (sym left) c.self.invariant.3
-
-pub reindex-requires-clause-index : goal.reindex-requires-clause-index
-reindex-requires-clause-index g c =
-    let left = store_left g (goal.at.reindex-requires-clause-index g c).After-published_store-store in
-    subst (λ (s : Contents). IsIndexOf s c.self.inside.index) (sym left) c.self.invariant.3
-
 pub returns-in_err-reindex-clause-refused : goal.returns-in_err-reindex-clause-refused
 returns-in_err-reindex-clause-refused g c =
     let o = g.J.BoardBrand.opening in
@@ -150,9 +112,6 @@ returns-in_err-reindex-clause-refused g c =
     let some = adds_rows (is_change call) (missing (ended call) state.table) (begins_row call && nat_lt capacity (needed_after state call)) (nat_lt 0 (added call)) (needed_after state call) state.next_id (ap adds (sym is) ∙ c.in_err-reindex.ensures.refused) in
     let p = err_from_is_err_and c.from_residual.result c.from_residual.ensures.1 in
     rw (p.1, p.2) (inr (refl, some))
-
-pub returns-in_err-reindex-clause-joined : goal.returns-in_err-reindex-clause-joined
-returns-in_err-reindex-clause-joined g c = IfOk-from_err c.from_residual.result _ c.from_residual.ensures.0
 
 pub overflow_add-len : goal.overflow_add-len
 overflow_add-len g c =
