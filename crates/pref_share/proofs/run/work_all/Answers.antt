@@ -1,4 +1,4 @@
-use Rattle.pref_share.proofs.Common.{arith, ℕ, Bool, ◌<◌, ◌^◌, [], length, get_or, subst, sym, sendable, IfOk, DidTask}
+use Rattle.pref_share.proofs.Common.{arith, ℕ, Bool, ◌<◌, length, get_or, subst, sym, sendable, IfOk, DidTask}
 use Rattle.std.proofs.lemmas.Result.{IfOk-weaker}
 use denote.Param.SendFields.{declared_send, variants_send, as_row_send}
 use Rattle.pref_share.specs.declared.run.Job.{Job}
@@ -12,15 +12,6 @@ map_vec-requires-send-J g c κs within = search (sendable, declared_send, client
 
 pub map_vec-requires-send-X : goal.map_vec-requires-send-X
 map_vec-requires-send-X g c κs within = search (sendable, declared_send, variants_send, as_row_send, client_send, options.the_send, faults.the_send) depth 14
-
-pub map_vec-requires-after_bounds : goal.map_vec-requires-after_bounds
-map_vec-requires-after_bounds g c = λ κs within i job lt is. (
-  subst (λ (j : Job g.row.J.Denot g.row.T.Denot). g.T.Task.took j.task j.task []) (sym is) (c.requires.fresh i job lt),
-  subst (λ (j : Job g.row.J.Denot g.row.T.Denot). length (g.T.Task.left j.task) < 2 ^ 63) (sym is) (c.requires.few i job lt),
-)
-
-pub returns-clause-len : goal.returns-clause-len
-returns-clause-len g c = c.map_vec.ensures.len
 
 pub returns-clause-each : goal.returns-clause-each
 returns-clause-each g c =
