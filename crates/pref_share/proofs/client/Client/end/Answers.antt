@@ -1,4 +1,4 @@
-use Rattle.pref_share.proofs.Common.{◌≡◌, suc, ◌+◌, length, None, refl, subst, ◌∙◌, arith, Done, state_at, IsPageOf, Joins, Standing}
+use Rattle.pref_share.proofs.Common.{◌≡◌, suc, ◌+◌, length, subst, arith, IsPageOf}
 use Rattle.pref_share.proofs.StandingLaws.{end_done, end_takes_no_memory, joins, only_memory, stands_ended}
 use Rattle.pref_share.proofs.client.Client.end.Goals as goal
 
@@ -19,12 +19,4 @@ invariant_of-self g c =
     )
 
 pub returns : goal.returns
-returns g c =
-    let o = g.J.BoardBrand.opening in
-    let s = c.self.inside in
-    let accepted = rw (← c.self.view_is) at c.requires.accepted in
-    let old : Standing = record { number = s.number; counter = s.counter; seen = s.seen; query = s.asking } in
-    let new : Standing = record { number = s.number; counter = s.counter + 1; seen = c.in-Ok.field-0.seen; query = None } in
-    let call : Joins o old c.args.call c.in-Ok.field-0.outcome new = joins o old _ c.args.call c.in-Ok.field-0 c.self.invariant.2 c.self.invariant.3.counted c.in-Ok.ensures.joined new accepted refl (omega arith) refl in
-    let done : c.in-Ok.field-0.outcome ≡ Done = call.reply ∙ end_done o.limits.capacity (state_at o call.before) c.args.call c.requires.ends in
-    rw (← c.self.view_is) (subst (λ returned. Joins o old c.args.call returned new) done call, refl)
+returns g c = grind (arith, joins, end_done)
