@@ -1,12 +1,14 @@
 #!/usr/bin/env python3
-"""Runs the examples of the doc comments, and compares what they print.
+"""Runs the examples of the doc comments, and compares what they print. One more reads a board while its lock is taken: where a read waits for
+that lock, it gives no answer.
 
     python3 tests/examples_of_docs.py           # in one program, by one `rt try`, without proofs
     python3 tests/examples_of_docs.py --show    # prints that program
 
 An example is a block `rust` of a doc comment in crates/*/src; a block `text` is a drawing. What an example uses and does not make is given, under
 the names of GIVEN and ON_A_BOARD: a table of seven hotels, their schema, a question, a machine, the clients of a board. Its comments are the lines
-that it prints, one after the other; a comment behind `let NAME = ..;` is the value of NAME. Needs the Rattle kit and Python 3.8.
+that it prints, one after the other; a comment behind `let NAME = ..;` is the value of NAME. The example of reads stands in a module that only the
+copy of pref_share has, READ_WHILE_LOCKED, since no other crate can take the lock. Needs the Rattle kit and Python 3.8.
 """
 import re
 import shutil
@@ -62,6 +64,40 @@ ON_A_BOARD = {
     "tasks": "let tasks = two_tasks(alloc)?;",
     "gate": "let gate = Open;",
 }
+
+READS = Path("read_while_locked.rt")
+READ_WHILE_LOCKED = """\
+//! Reads of a client while the lock of its board is taken.
+
+use crate::board::Board;
+use crate::book::BoardBrand;
+use crate::client::Client;
+use crate::fault::ShareFault;
+use pref_table::Row;
+use std::alloc::Global;
+use std::sync::Wait;
+
+/// The row of id 3, the room, and the blocks that are left after a scan.
+///
+/// ```rust
+/// let blocks = client.begin(rt, alloc, board, ask)?;     // 4
+/// let (row, room, left) = read_while_locked(rt, alloc, board, client);
+/// let price = row?.cell(0);                              // 80
+/// let is_full = room? == 0;                              // false
+/// let left = left?;                                      // 3
+/// ```
+pub fn read_while_locked<J: BoardBrand, R: Wait>(
+    rt: &R,
+    alloc: Global,
+    board: &Board<J>,
+    client: &mut Client<J>,
+) -> (Result<Row, ShareFault>, Result<u32, ShareFault>, Result<u32, ShareFault>) {
+    let taken = board.publisher.lock(rt);
+    let found = (client.get(3), client.room(), client.scan(alloc));
+    drop(taken);
+    found
+}
+"""
 
 RUNTIME = "R: Threads + Wait + Print + AllocGlobal + Sync"
 BOUNDS = f"<J: BoardBrand + Send + Sync, {RUNTIME}>"
@@ -208,6 +244,7 @@ fn main(rt: HostRuntime) -> Result<()> {{
 """
 IMPORTED = """\
 use anyhow::{Context, Result, anyhow};
+use pref_share::read_while_locked::read_while_locked;
 use std::alloc::{AllocError, Global};
 use std::env;
 use std::marker::Brand;
@@ -279,14 +316,18 @@ def makings(code, given):
     return list(dict.fromkeys(found))
 
 
+def blocks_of(crate, file, text):
+    """Each block of the doc comments of a file: the language that it names, and the example that it would be."""
+    for block in BLOCK.finditer(text):
+        lines = [re.sub(r"^ *//[/!] ?", "", line) for line in block[3].splitlines()]
+        yield block[2], Example(crate, file, text.count("\n", 0, block.start()) + 1, lines)
+
+
 def blocks(crate):
-    """Each block of the doc comments of a crate: the language that it names, and the example that it would be."""
+    """Those of a crate."""
     source = TOP / "crates" / crate / "src"
     for file in sorted(source.rglob("*.rt")):
-        text = file.read_text(encoding="utf-8")
-        for block in BLOCK.finditer(text):
-            lines = [re.sub(r"^ *//[/!] ?", "", line) for line in block[3].splitlines()]
-            yield block[2], Example(crate, file.relative_to(source), text.count("\n", 0, block.start()) + 1, lines)
+        yield from blocks_of(crate, file.relative_to(source), file.read_text(encoding="utf-8"))
 
 
 def exports(crate):
@@ -314,8 +355,12 @@ def program(examples):
 
 
 def write_crate(top, code):
-    """Copies the crates, and adds one that is this program."""
+    """Copies the crates, and adds the reads of a board to pref_share and a crate that is this program."""
     shutil.copytree(TOP / "crates", top / "crates", ignore=shutil.ignore_patterns("out", "must-fail"))
+    shared = top / "crates/pref_share/src"
+    (shared / READS).write_text(READ_WHILE_LOCKED, encoding="utf-8")
+    with open(shared / "lib.rt", "a", encoding="utf-8") as root:
+        root.write(f"\npub mod {READS.stem};\n")
     shutil.copy(TOP / "HANDLES", top)
     own = f"doc_examples: {' '.join(CRATES)} anyhow\n"
     (top / "crates.txt").write_text((TOP / "crates.txt").read_text(encoding="utf-8") + own, encoding="utf-8")
@@ -342,7 +387,7 @@ def run(code, examples):
 
 
 def main():
-    found = [block for crate in CRATES for block in blocks(crate)]
+    found = [*chain.from_iterable(map(blocks, CRATES)), *blocks_of("pref_share", READS, READ_WHILE_LOCKED)]
     examples = [example for language, example in found if language == "rust"]
     not_run = [example.place for language, example in found if language != "rust" and any(map(STATEMENT.search, example.lines))]
     code = program(examples)

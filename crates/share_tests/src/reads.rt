@@ -1,4 +1,4 @@
-//! Reads of a client, which take no lock. `tests/reads_take_no_lock.py` shows that they are answered while another holds the board's.
+//! Reads of a client, which take no lock. `tests/reads_take_no_lock.py` shows that they would not compile if they took the board's.
 
 ghost use Rattle.std.specs.Prelude.{◌≡◌};
 
