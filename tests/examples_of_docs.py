@@ -2,7 +2,7 @@
 """Runs the examples of the doc comments, and compares what they print. One more reads a board while its lock is taken: where a read waits for
 that lock, it gives no answer.
 
-    python3 tests/examples_of_docs.py           # in one program, by one `rt try`, without proofs
+    python3 tests/examples_of_docs.py           # in one program, without proofs; what fails is named by a second run
     python3 tests/examples_of_docs.py --show    # prints that program
 
 An example is a block `rust` of a doc comment in crates/*/src; a block `text` is a drawing. What an example uses and does not make is given, under
@@ -231,14 +231,13 @@ fn run_board{bounds}(rt: &R, name: BoardName, setup: Setup, rows: &[Row]) -> Res
 {examples}
 fn main(rt: HostRuntime) -> Result<()> {{
     let words: Vec<String> = env::args(&rt)?.skip(1).collect(rt.alloc())?;
-    let [name] = words.as_slice() else {{
-        return Err(anyhow!("the name of an example"));
-    }};
-    match name.as_str() {{
+    for name in words.as_slice() {{
+        match name.as_str() {{
 {arms}
-        _ => return Err(anyhow!("no such example")),
+            _ => return Err(anyhow!("no such example")),
+        }}
+        println!(rt; "{end}")?;
     }}
-    println!(rt; "{end}")?;
     Ok(())
 }}
 """
@@ -349,7 +348,7 @@ def imports(code):
 
 def program(examples):
     functions = "\n".join(f"// {example.place}\n{example.function()}" for example in examples)
-    arms = "\n".join(f'        "{example.name}" => {example.name}(&rt, rt.alloc())?,' for example in examples)
+    arms = "\n".join(f'            "{example.name}" => {example.name}(&rt, rt.alloc())?,' for example in examples)
     parts = {"bounds": BOUNDS, "examples": functions, "arms": arms, "end": END}
     return PROGRAM.format(imports=IMPORTED + "".join(imports(functions + PROGRAM)), **parts)
 
@@ -370,20 +369,33 @@ def write_crate(top, code):
     return source.parent
 
 
-def write_cases(folder, examples):
-    folder.mkdir()
-    for example in examples:
-        (folder / example.name).write_text(INPUT, encoding="utf-8")
-        (folder / f"{example.name}.args").write_text(f"{example.name}\n", encoding="utf-8")
-        (folder / f"{example.name}.stdout").write_text("".join(f"{line}\n" for line in [*example.prints, END]), encoding="utf-8")
+def write_case(folder, name, examples):
+    """Writes a run of some examples, one after the other, and what it prints."""
+    (folder / name).write_text(INPUT, encoding="utf-8")
+    (folder / f"{name}.args").write_text("".join(f"{example.name}\n" for example in examples), encoding="utf-8")
+    lines = chain.from_iterable([*example.prints, END] for example in examples)
+    (folder / f"{name}.stdout").write_text("".join(f"{line}\n" for line in lines), encoding="utf-8")
 
 
-def run(code, examples):
-    """Whether each example prints what its comments say, and ends."""
+def run(code, cases):
+    """Whether each case, which has a name and examples, prints what their comments say, and ends."""
     with tempfile.TemporaryDirectory() as room:
-        crate = write_crate(Path(room), code)
-        write_cases(Path(room) / "cases", examples)
-        return subprocess.run(["rt", "try", "--cases", Path(room) / "cases"], cwd=crate, stdin=subprocess.DEVNULL).returncode == 0
+        crate, folder = write_crate(Path(room), code), Path(room) / "cases"
+        folder.mkdir()
+        for name, examples in cases.items():
+            write_case(folder, name, examples)
+        return subprocess.run(["rt", "try", "--cases", folder], cwd=crate, stdin=subprocess.DEVNULL).returncode == 0
+
+
+def are_as_they_say(code, examples):
+    """Runs all that read no input in one case, since each has a cost; where that fails, each by itself, which names those that fail."""
+    alone = {example.name: [example] for example in examples}
+    together = {name: case for name, case in alone.items() if any("rt.stdin()" in line for line in case[0].lines)}
+    together["without_input"] = [example for example in examples if example.name not in together]
+    if run(code, together):
+        return True
+    run(code, alone)
+    return False
 
 
 def main():
@@ -396,7 +408,7 @@ def main():
         return
     for place in not_run:
         print(f"{place}: a statement in a block that is no example")
-    is_right = bool(examples) and run(code, examples)
+    is_right = bool(examples) and are_as_they_say(code, examples)
     print(f"{len(examples)} examples, {'as they say' if is_right else 'not all as they say'}, {len(not_run)} not run")
     sys.exit(0 if is_right and not not_run else 1)
 
