@@ -5,7 +5,7 @@ use Rattle.pref_sky.proofs.Common.{sum_by, count_by-le-length, Among, take, take
 use Rattle.pref_sky.proofs.Common.{IsPermutation-sym, Contains-permutation, IsPermutation}
 use Rattle.pref_sky.proofs.Common.{sum_by-append, not, IsPartitionedBy, cases_lt}
 use Rattle.pref_sky.proofs.Common.{IsChain, IsInOrder, Bor, Called, IsSortedBy, IsSortedByKeyClosure, Mut, always_returns_same, is_lt, nat_cmp, ordering_then}
-use Rattle.std.proofs.lemmas.List.Folds.{fold-map, list_any_at}
+use Rattle.std.proofs.lemmas.List.Folds.{fold-map, list_any_at, list_any_none}
 pub use Rattle.pref_sky.specs.Members.{Among, SameMembers}
 
 -- what stands at a place of a list is among it
@@ -29,6 +29,9 @@ any_from p xs x m t = let w = place_of xs x x m in list_any_at p xs w.0 x w.1 (a
 pub any_gives : {E : Type 0} (p : E → Bool) (xs : List E) → list_any p xs ≡ true → (x : E) × Among x xs × (p x ≡ true)
 any_gives p [] h = absurd (false≢true h)
 any_gives p (y ∷ ys) h = grind (arith, any_gives p ys)
+
+pub any_none : {E : Type 0} (p : E → Bool) (xs : List E) → ((x : E) → Among x xs → p x ≡ false) → list_any p xs ≡ false
+any_none p xs none = list_any_none p xs (λ k d inside. none (get_or xs k d) (among_place xs k d inside))
 
 -- what passes a filter
 pub in_filter : {E : Type 0} (p : E → Bool) (xs : List E) (x : E) → Among x xs → p x ≡ true → Among x (filter p xs)

@@ -1,22 +1,45 @@
--- Levels found one after the other, each from what the levels before leave: the entries that one of the best dominates.
-use Rattle.pref_sky.proofs.Common.{◌≡◌, ℕ, ◌≤◌, Bool, true, not, List, [], sym, ap, arith, filter, filter_agree, append-nil, IsStrictOrder}
-use Rattle.pref_sky.proofs.Common.{Entry, Ranked, best, is_beaten, rest, without_best, in_order_of_id, levels}
-use Rattle.pref_sky.proofs.IdOrder.{among_in_order, from_in_order}
-use Rattle.pref_sky.proofs.ListLaws.{any_from, any_gives, from_filter, in_filter, same_answer, settled}
-use Rattle.pref_sky.proofs.Merges.{unbeaten_over}
+-- Levels found one after the other, each from what the levels before leave: the entries without those that have an id of the best.
+use Rattle.pref_sky.proofs.Common.{at_level, map, ◌++◌, ◌≡◌, ◌==◌, ℕ, zero, suc, ◌≤◌, Bool, not, inl, inr, List, [], ◌∷◌, sym, ◌∙◌, ap, arith, filter, list_any, append-nil, cases_lt, get_or, IsNonDecreasingBy, ltb, ltb-true}
+use Rattle.pref_sky.proofs.Common.{nat_tests, Among, Entry, HaveDifferentIds, best, is_beaten, rest, without_best, in_order_of_id, levels, cases_Bool}
+use Rattle.pref_sky.proofs.IdOrder.{among_in_order, different_later, different_tail, from_in_order, rises_in_order}
+use Rattle.pref_sky.proofs.ListLaws.{any_from, any_none, filter_agree_among, from_filter, in_filter, in_order_at, settled}
+use Rattle.pref_sky.proofs.Merges.{different_filter}
 
--- what an entry of a list dominates, one of the best dominates
-pub without_these : (over : Entry → Entry → Bool) → IsStrictOrder over → (xs : List Entry) → filter (is_beaten over (in_order_of_id (best over xs))) xs ≡ without_best over xs
-without_these over strict xs =
+pub rest_differ : (over : Entry → Entry → Bool) (all : List Entry) (n : ℕ) → HaveDifferentIds all → HaveDifferentIds (rest over all n)
+rest_differ over all zero different = different
+rest_differ over all (suc n) different = different_filter (is_beaten over (rest over all n)) (rest over all n) (rest_differ over all n different)
+
+pub ids_rise : (xs : List Entry) → HaveDifferentIds xs → IsNonDecreasingBy (λ (e : Entry). e.id) (in_order_of_id xs)
+ids_rise xs different i j d le inside =
+    elim (cases_lt i j) [
+      | inl less ↦ omega (arith, ltb-true _ _ (in_order_at (λ (e x : Entry). ltb e.id x.id) (in_order_of_id xs) i j d (rises_in_order xs different) less inside))
+      | inr past ↦ let same : i ≡ j = omega (arith, le, past) in omega (arith, ap (λ k. (get_or (in_order_of_id xs) k d).id) same)
+    ]
+
+-- there is one entry with an id
+one_by_id : (xs : List Entry) → HaveDifferentIds xs → (x y : Entry) → Among x xs → Among y xs → x.id ≡ y.id → x ≡ y
+one_by_id [] different x y mx my same = absurd mx
+one_by_id (z ∷ zs) different x y mx my same =
+    let later = different_later (λ (e : Entry). e.id) z zs different.once in
+    grind (arith, one_by_id zs (record { once = different_tail (λ (e : Entry). e.id) z zs different.once }) x y)
+
+-- what has no id of the best is dominated
+pub without_ids : (over : Entry → Entry → Bool) (xs : List Entry) → HaveDifferentIds xs → filter (λ e. not (list_any (λ (b : Entry). b.id == e.id) (in_order_of_id (best over xs)))) xs ≡ without_best over xs
+without_ids over xs different =
     let top = in_order_of_id (best over xs) in
     let is_best : Entry → Bool = λ x. not (is_beaten over xs x) in
-    filter_agree (is_beaten over top) (is_beaten over xs) (λ e.
-    same_answer (is_beaten over top e) (is_beaten over xs e)
-    (λ h. let w = any_gives (λ x. over x e) top h in any_from (λ x. over x e) xs w.0 (from_filter is_best xs w.0 (from_in_order (best over xs) w.0 w.1)).0 w.2)
-    (λ h. let w = unbeaten_over over strict (λ _. true) xs e h in any_from (λ x. over x e) top w.0 (among_in_order (best over xs) w.0 (in_filter is_best xs w.0 w.1 (ap not w.4))) w.3)) xs
+    filter_agree_among (λ e. not (list_any (λ (b : Entry). b.id == e.id) top)) (is_beaten over xs) xs (λ x m.
+    let same_id : Entry → Bool = λ b. b.id == x.id in
+    elim (cases_Bool (is_beaten over xs x)) [
+      | inl beaten ↦ ap not (any_none same_id top (λ b mb. grind (arith, nat_tests, from_filter is_best xs b (from_in_order (best over xs) b mb), one_by_id xs different b x))) ∙ sym beaten
+      | inr unbeaten ↦ grind (arith, nat_tests, any_from same_id top x (among_in_order (best over xs) x (in_filter is_best xs x m (ap not unbeaten))))
+    ])
+
+none_later : (over : Entry → Entry → Bool) (all : List Entry) (n m : ℕ) → rest over all n ≡ [] → n ≤ m → rest over all m ≡ []
+none_later over all n m none le = settled (rest over all) n m (λ k past is. ap (without_best over) (is ∙ none) ∙ sym none) le ∙ none
 
 -- where nothing is left, no entry is of a later level
 pub no_later_level : (over : Entry → Entry → Bool) (all : List Entry) (n m : ℕ) → rest over all n ≡ [] → n ≤ m → levels over all n ≡ levels over all m
 no_later_level over all n m none le =
-    let both : ℕ → List Entry × List Ranked = λ k. (rest over all k, levels over all k) in
-    ap (λ p. p.1) (sym (settled both n m (λ k past is. grind (arith, none, is, append-nil (levels over all k))) le))
+    sym (settled (levels over all) n m
+    (λ k past is. ap (λ l. levels over all k ++ map (at_level (suc k)) (in_order_of_id (best over l))) (none_later over all n k none past) ∙ (append-nil (levels over all k) ∙ is)) le)

@@ -1,11 +1,12 @@
 //! The levels of entries by an order that names no question: by block-nested-loops, level by level.
 
-ghost use Rattle.std.specs.Prelude.{◌≡◌, ◌<◌, ◌++◌, map, IfOk, OnOk};
+ghost use Rattle.std.specs.Prelude.{◌≡◌, ◌<◌, ◌++◌, ◌==◌, map, IfOk, OnOk};
+ghost use Rattle.std.specs.List.{list_any};
+ghost use Rattle.std.specs.List.Sorted.{IsNonDecreasingBy};
 ghost use Rattle.pref_sky.specs.Levels.{HaveDifferentIds, at_level, entry_order, levels};
 
 use crate::best::best_rows;
 use crate::entry::{Entry, Ranked};
-use crate::window::is_beaten_by;
 use pref_term::Dominance;
 use std::alloc::{AllocError, Global};
 
@@ -23,11 +24,16 @@ fn push_level(ranked: &mut Vec<Ranked>, level: u32, entries: &[Entry]) -> Result
     Ok(())
 }
 
+/// Whether one of these, which are to be in order of id, has this id: a search by halves.
+fn have_id(entries: &[Entry], id: u64) -> bool
+    ensures { IsNonDecreasingBy (λ e. e.id) entries.now → result ≡ list_any (λ e. e.id == id) entries.now }
+{
+    entries.binary_search_by_key(&id, |entry| entry.id).is_ok()
+}
+
 /// The entries of the levels 1 to `cut`, in order of level, then id.
 ///
-/// Cost: for each level the passes of [`best_rows`](crate::best_rows) over what the levels before leave, until nothing is left, and for each of
-/// these a look among the best for one that dominates it.
-#[tactic(auto, using(std::proofs::lemmas::Grind::common_steps, crate::proofs::PassedLevels::no_later_level))]
+/// Cost: for each level the passes of [`best_rows`](crate::best_rows) over what the levels before leave, until nothing is left.
 pub(crate) fn levels_by_passes<D: Dominance>(
     alloc: Global,
     dominance: &D,
@@ -44,7 +50,7 @@ pub(crate) fn levels_by_passes<D: Dominance>(
     let mut level = 0;
     'each_level: while level < cut && !left.is_empty() {
         let best = best_rows(alloc, dominance, window, &left)?;
-        left.retain(|entry| is_beaten_by(dominance, &best, entry));
+        left.retain(|entry| !have_id(&best, entry.id));
         level += 1;
         push_level(&mut ranked, level, &best)?;
     }

@@ -51,7 +51,7 @@ impl Model for Window {
 }
 
 /// Whether one of the entries dominates this one.
-pub(crate) fn is_beaten_by<D: Dominance>(dominance: &D, entries: &[Entry], entry: &Entry) -> bool
+fn is_beaten_by<D: Dominance>(dominance: &D, entries: &[Entry], entry: &Entry) -> bool
     ensures { result ≡ is_beaten (entry_order (D.order dominance.now)) entries.now entry.now }
 {
     entries.iter().any(|other| is_over(dominance, other, entry))
