@@ -6,7 +6,8 @@ use Rattle.pref_sky.proofs.ListLaws.{among_place, any_from, from_filter, in_filt
 use Rattle.pref_sky.proofs.Merges.{comes_after, unbeaten_over}
 use Rattle.pref_sky.specs.Sweep.{AreSwept, IsAskedOf, IsClass, IsKept, IsMember, HasAlike, IsOneMore, IsSameLevel, StandsFor, are_level_in, is_ahead, is_at}
 use Rattle.pref_sky.specs.Held.{AreHeld}
-use Rattle.pref_sky.specs.Steps.{IsAsked, IsCovered, IsCut, IsStepPut, covers, is_before, stands_before, step_at}
+use Rattle.pref_sky.specs.Steps.{IsAsked, IsCovered, IsCut, IsStepPut, covers, is_counted, stands_before, step_at}
+use Rattle.pref_sky.specs.declared.level.Counted.TheVariants.{NoWorse}
 use Rattle.pref_sky.specs.declared.level.Level.{Level}
 use Rattle.pref_term.specs.Signatures.{is_within}
 
@@ -132,7 +133,7 @@ module _ (second third : Entry → Entry → Bool) (second_is_chain : IsChain se
   in_order_upto k l le there = grind (arith, in_order_at (stands_before second third all) steps k l 0 ordered, second_is_chain.strict.irreflexive (step l), third_is_chain.strict.irreflexive (step l))
 
   -- the last one that is no worse in the second chain stands for all that are so in both
-  last_covers : (count : ℕ) → IsCut (is_before second all e true) steps count → IsCovered second third all steps e → (0 < count) × (covers second third (step (count - 1)) e ≡ true)
+  last_covers : (count : ℕ) → IsCut (is_counted second all e NoWorse) steps count → IsCovered second third all steps e → (0 < count) × (covers second third (step (count - 1)) e ≡ true)
   last_covers count cut covered =
       let w = place_of steps covered.0 0 covered.1 in
       let at : covers second third (step w.0) e ≡ true = rw w.2 covered.2 in
@@ -214,7 +215,7 @@ module _ (over first second third : Entry → Entry → Bool) (all : List Entry)
     step_inside p m = omega (arith, (stands.steps_within p m).0, inside)
 
     -- where a member is ahead of the next entry, the last step that is no worse in the second chain is over it
-    step_over : (j count : ℕ) → IsCut (is_before second all next_one true) steps count → IsMember over all i n j → is_ahead first second third (entry_at all j) next_one ≡ true
+    step_over : (j count : ℕ) → IsCut (is_counted second all next_one NoWorse) steps count → IsMember over all i n j → is_ahead first second third (entry_at all j) next_one ≡ true
         → (0 < count) × (over (step_at all steps (count - 1)) next_one ≡ true)
     step_over j count cut member ahead =
         let m = entry_at all j in

@@ -1,9 +1,11 @@
 -- No public contract cites this.
 -- How the steps of a level in a sweep stand to an entry, as far as searches by halves tell, and where one more is put.
-use Rattle.std.specs.Prelude.{◌≡◌, ◌<◌, ◌≤◌, ◌-◌, ◌++◌, ◌∷◌, cond, get_or, Bool, not, ◌&&◌, true, false, ℕ, List, drop, length, take}
+use Rattle.std.specs.Prelude.{◌≡◌, ◌<◌, ◌≤◌, ◌-◌, ◌++◌, ◌∷◌, get_or, Bool, not, ◌&&◌, true, false, ℕ, List, drop, length, take}
 use Rattle.pref_sky.specs.Items.{entry_at}
 use Rattle.pref_sky.specs.Members.{Among}
 use Rattle.pref_sky.specs.declared.entry.Entry.{Entry}
+use Rattle.pref_sky.specs.declared.level.Counted.{Counted}
+use Rattle.pref_sky.specs.declared.level.Counted.TheVariants.{Better, NoWorse}
 
 -- the entry of a step
 abbrev pub step_at : List Entry → List ℕ → ℕ → Entry
@@ -21,9 +23,10 @@ stands_before second third all p q = not (second (entry_at all q) (entry_at all 
 abbrev pub IsCovered : (Entry → Entry → Bool) → (Entry → Entry → Bool) → List Entry → List ℕ → Entry → Type 0
 IsCovered second third all steps e = (p : ℕ) × Among p steps × (covers second third (entry_at all p) e ≡ true)
 
--- a step is better than an entry in the second chain, or also level with it
-abbrev pub is_before : (Entry → Entry → Bool) → List Entry → Entry → (or_level : Bool) → ℕ → Bool
-is_before second all e or_level p = cond or_level (not (second e (entry_at all p))) (second (entry_at all p) e)
+-- a step is better than an entry in the second chain, or no worse
+abbrev pub is_counted : (Entry → Entry → Bool) → List Entry → Entry → Counted → ℕ → Bool
+is_counted second all e Better p = second (entry_at all p) e
+is_counted second all e NoWorse p = not (second e (entry_at all p))
 
 -- so many steps pass a test, as far as the last of them and the next one tell
 pub record IsCut (passes : ℕ → Bool) (steps : List ℕ) (count : ℕ) : Type 0 where
@@ -34,7 +37,7 @@ pub record IsCut (passes : ℕ → Bool) (steps : List ℕ) (count : ℕ) : Type
 -- the answer whether a step is over the entry: where it is true one is, and where it is false the last one that is no worse is not
 pub record IsAsked (over second : Entry → Entry → Bool) (all : List Entry) (steps : List ℕ) (e : Entry) (answer : Bool) : Type 0 where
   pub found : answer ≡ true → (k : ℕ) × (k < length steps) × (over (step_at all steps k) e ≡ true)
-  pub none : answer ≡ false → (count : ℕ) × IsCut (is_before second all e true) steps count × (0 < count → over (step_at all steps (count - 1)) e ≡ false)
+  pub none : answer ≡ false → (count : ℕ) × IsCut (is_counted second all e NoWorse) steps count × (0 < count → over (step_at all steps (count - 1)) e ≡ false)
 
 -- from a place up to another none is better than it in the third chain, and the next one is
 pub record AreNoBetter (third : Entry → Entry → Bool) (all : List Entry) (steps : List ℕ) (e : Entry) (from to : ℕ) : Type 0 where
@@ -47,6 +50,6 @@ pub record AreNoBetter (third : Entry → Entry → Bool) (all : List Entry) (st
 pub record IsStepPut (second third : Entry → Entry → Bool) (all : List Entry) (old : List ℕ) (place : ℕ) (new : List ℕ) : Type 0 where
   pub from : ℕ
   pub to : ℕ
-  pub better : IsCut (is_before second all (entry_at all place) false) old from
+  pub better : IsCut (is_counted second all (entry_at all place) Better) old from
   pub taken_out : AreNoBetter third all old (entry_at all place) from to
   pub is : new ≡ take from old ++ place ∷ drop to old

@@ -16,7 +16,7 @@ ghost use Rattle.pref_sky.specs.OwnOrders.{comes_after, own_order};
 ghost use Rattle.pref_sky.specs.Items.{entry_at};
 ghost use Rattle.pref_sky.specs.Leads.{IsClassBy, LeadsSweep, StandsBy, mark_of, rule_of, second_of, third_of};
 ghost use Rattle.pref_sky.specs.Members.{Among, SameMembers};
-ghost use Rattle.pref_sky.specs.Steps.{AreNoBetter, IsAsked, IsCut, IsStepPut, is_before};
+ghost use Rattle.pref_sky.specs.Steps.{AreNoBetter, IsAsked, IsCut, IsStepPut, is_counted};
 ghost use Rattle.pref_sky.specs.Sweep.{ArePlaces, IsAskedOf, IsKept, IsMember, IsOfClass, IsOneMore, IsSameLevel, StandsFor, is_at};
 ghost use Rattle.pref_sky.specs.declared.entry.Entry.{Entry};
 ghost use Rattle.pref_sky.specs.declared.item.Item.{Item};
@@ -44,28 +44,36 @@ pub(crate) struct Level {
     pub(crate) class: usize,
 }
 
-/// How many steps are better than an entry in the second chain, or also level with it: they are the first ones. A search by halves.
+/// Which steps are counted.
+#[derive(Clone, Copy)]
+pub(crate) enum Counted {
+    /// Those that are better than an entry in the second chain.
+    Better,
+    /// Those that are no worse.
+    NoWorse,
+}
+
+/// How many steps stand so to an entry: they are the first ones. A search by halves.
 #[inline(always)]
-fn count_before(
+fn count_steps(
     order: &OwnOrder,
     lead: &Lead,
     entries: &[Entry],
     steps: &[usize],
     entry: &Entry,
-    or_level: bool,
+    counted: Counted,
 ) -> usize
     requires { All (λ place. place < length entries.now) steps.now }
-    ensures { IsCut (is_before (second_of order.now lead.now) entries.now entry.now or_level) steps.now result }
+    ensures { IsCut (is_counted (second_of order.now lead.now) entries.now entry.now counted) steps.now result }
 {
     let mut low = 0;
     let mut high = steps.len();
     'halves: while low < high {
         let middle = low + (high - low) / 2;
         let step = &entries[steps[middle]];
-        let passes = if or_level {
-            !lead.is_better_in(order, SECOND, entry, step)
-        } else {
-            lead.is_better_in(order, SECOND, step, entry)
+        let passes = match counted {
+            Counted::Better => lead.is_better_in(order, SECOND, step, entry),
+            Counted::NoWorse => !lead.is_better_in(order, SECOND, entry, step),
         };
         if passes {
             low = middle + 1;
@@ -110,7 +118,7 @@ fn put_step(
     ensures { OnOk result (IsStepPut (second_of order.now lead.now) (third_of order.now lead.now) entries.now steps.old.items place steps.new.items) }
 {
     let entry = &entries[place];
-    let from = count_before(order, lead, entries, steps, entry, false);
+    let from = count_steps(order, lead, entries, steps, entry, Counted::Better);
     let to = end_of_no_better(order, lead, entries, steps, entry, from);
     if from == to {
         steps.insert(from, place)?;
@@ -169,7 +177,7 @@ impl Level {
         if self.steps.len() == 1 {
             return order.is_over(&entries[self.steps[0]], entry);
         }
-        let count = count_before(order, lead, entries, &self.steps, entry, true);
+        let count = count_steps(order, lead, entries, &self.steps, entry, Counted::NoWorse);
         count > 0 && order.is_over(&entries[self.steps[count - 1]], entry)
     }
 
