@@ -97,9 +97,6 @@ pub room_for : (value more power : ℕ) → value < 10 ^ 8 → more < power → 
 room_for value more power below few = omega (arith, mul-le-mul_right {m = value + 1} {n = 10 ^ 8} power (omega arith), one_more_of value power)
 
 module _ (byte : ℕ → ℕ) (count : ℕ) where
-  digit_up : (k : ℕ) → digit_at byte (suc count) k ≡ digit_at byte count (suc k)
-  digit_up k = ap (λ n. if nat_lt n 8 then 0 else byte (n - 8) - 48) {x = k + suc count} {y = suc k + count} (omega arith)
-
   digit_last : digit_at byte (suc count) 7 ≡ byte count - 48
   digit_last = ap (λ n. if nat_lt n 8 then 0 else byte (n - 8) - 48) {x = 7 + suc count} {y = count + 8} (omega arith) ∙ rw (le-ltb (count + 8) 8 (omega arith)) (ap (λ n. byte n - 48) {x = count + 8 - 8} {y = count} (omega arith))
 

@@ -1,17 +1,12 @@
 -- No public contract cites this.
--- The fields of a line, one after the other. (this project)
-use Rattle.std.specs.Prelude.{◌≡◌, ◌⊎◌, ◌≤◌, ◌<◌, ◌+◌, ℕ, ℤ, List, [], ◌∷◌, length, take, drop, Result, Ok}
+-- The digits that a text begins with, and the plain field that a line begins with. (this project)
+use Rattle.std.specs.Prelude.{◌≡◌, ◌≤◌, ◌<◌, ◌+◌, ℕ, ℤ, List, [], ◌∷◌, length, take, drop, Ok}
 use Rattle.std.specs.Char.{is_ascii_digit}
 use Rattle.std.specs.Str.Parse.{digits_value}
 use Rattle.std.specs.List.{prefix_len, slice_split}
 use Rattle.pref_table.specs.Number.{number_of}
 use Rattle.pref_table.specs.Plain.{ArePlain}
-use Rattle.pref_table.specs.Rows.{cell_in, is_comma}
-use Rattle.pref_table.specs.declared.fault.TableFault.{TableFault}
-
--- the first field of a line, and what follows the comma after it, where there is one
-abbrev pub IsCutInto : (line field after : List ℕ) → Type 0
-IsCutInto line field after = (slice_split is_comma line ≡ field ∷ slice_split is_comma after) ⊎ (slice_split is_comma line ≡ field ∷ [])
+use Rattle.pref_table.specs.Rows.{is_comma}
 
 -- the digits that the first so many bytes of a text begin with: their value, and how many they are
 pub record AreLeadingDigits (most : ℕ) (text : List ℕ) (value count : ℕ) : Type 0 where
@@ -30,9 +25,3 @@ pub record IsPlainField (line : List ℕ) (number : ℤ) (size : ℕ) : Type 0 w
   pub cut : size < length line → slice_split is_comma line ≡ take size line ∷ slice_split is_comma (drop (size + 1) line)
   pub last : size ≡ length line → slice_split is_comma line ≡ line ∷ []
   pub plain : ArePlain (drop (size + 1) line) → ArePlain line
-
--- the cell of a line's first field, which is in this column of row 0, or its fault; and what follows the comma after it
-pub record FirstCell (line : List ℕ) (col : ℕ) (cell : Result ℤ TableFault) (after : List ℕ) : Type 0 where
-  pub field : List ℕ
-  pub is : cell ≡ cell_in 0 col field
-  pub cut : IsCutInto line field after

@@ -1,30 +1,18 @@
 //! A row from a line of text.
-ghost use Rattle.std.specs.Prelude.{◌≡◌, ◌==◌, ◌+◌, ◌<◌, ◌≤◌, ℕ, length, drop, count_by, List, IfSome, MatchResult, Ok, Err};
-ghost use Rattle.pref_table.specs.Fields.{FirstCell, IsCutInto, IsFront};
+ghost use Rattle.std.specs.Prelude.{◌≡◌, ◌==◌, ◌+◌, ◌<◌, ◌≤◌, ℕ, length, drop, count_by, IfSome, Ok};
+ghost use Rattle.pref_table.specs.Fields.{IsFront};
 ghost use Rattle.pref_table.specs.Lines.{IsPlainLine};
 ghost use Rattle.pref_table.specs.Rows.{line_row};
 
 use crate::fault::TableFault;
 use crate::number::plain_field;
-use crate::row::{Row, cell_at};
+use crate::row::{Row, row_of_fields};
 use crate::schema::{MAX_COLUMNS, Schema};
 
 fn count_commas(line: &[u8]) -> usize
     ensures { result ≡ count_by (λ byte. byte == 44) line.now }
 {
     line.iter().filter(|byte| **byte == b',').count()
-}
-
-/// The first field of a line, and what follows the comma after it.
-fn cut_field(line: &[u8]) -> (&[u8], &[u8])
-    ensures { IsCutInto line.now result.0.now result.1.now }
-{
-    for (place, byte) in line.iter().enumerate() {
-        if *byte == b',' {
-            return (&line[..place], &line[place + 1..]);
-        }
-    }
-    (line, &line[line.len()..])
 }
 
 /// The part of a line behind the comma after a first field of this size.
@@ -35,31 +23,13 @@ fn after_comma(line: &[u8], size: usize) -> &[u8]
     &line[size + 1..]
 }
 
-/// The cell of the first field of a line, which is in this column of row 0, and what follows the comma after it.
-fn first_cell(line: &[u8], col: u64) -> Result<(i64, &[u8]), TableFault>
-    ensures { MatchResult result (λ cell. FirstCell line.now col (Ok cell.0) cell.1.now) (λ fault. (after : List ℕ) × FirstCell line.now col (Err fault) after) }
-{
-    let (field, tail) = cut_field(line);
-    Ok((cell_at(0, col, field)?, tail))
-}
-
-/// The row of a line of text. Its fields are counted before any is read.
+/// The row of a line of text.
 #[inline(never)]
 fn cut_row(schema: &Schema, line: &[u8]) -> Result<Row, TableFault>
     ensures { result ≡ line_row (length schema.now) line.now }
 {
-    let width = schema.width();
-    if count_commas(line) + 1 != width {
-        return Err(TableFault::Width { row: 0 });
-    }
-    let mut cells = [0; MAX_COLUMNS];
-    let mut rest = line;
-    for col in 0..width {
-        let (number, tail) = first_cell(rest, col as u64 + 1)?;
-        cells[col] = number;
-        rest = tail;
-    }
-    Ok(Row::of_cells(cells))
+    let fields = line.split(|byte| *byte == b',');
+    row_of_fields(schema, 0, count_commas(line) + 1, fields)
 }
 
 /// The row of a line whose fields are each 1 to 18 digits, perhaps behind a sign, and no other byte. Reads it in one pass. The text begins

@@ -1,7 +1,8 @@
 //! Rows of whole numbers.
-ghost use Rattle.std.specs.Prelude.{◌≡◌, ◌<◌, ◌≤◌, ℕ, ℤ, pos, length, slice_index_or, MatchResult, Ok, Err};
+ghost use Rattle.std.specs.Prelude.{◌≡◌, ◌<◌, ◌≤◌, ℕ, ℤ, List, pos, length, slice_index_or, MatchResult, Ok, Err};
+ghost use Rattle.std.specs.Iterator.{AlwaysYields, IsFinite};
 ghost use Rattle.pref_table.specs.Numbered.{all_from};
-ghost use Rattle.pref_table.specs.Rows.{cell_in, line_row, numbers_row};
+ghost use Rattle.pref_table.specs.Rows.{cell_in, numbers_row, row_of};
 
 use crate::fault::TableFault;
 use crate::number::{NumberFault, number};
@@ -77,4 +78,31 @@ pub(crate) fn cell_at(row: u64, col: u64, field: &[u8]) -> Result<i64, TableFaul
         Err(NumberFault::NotWhole) => Err(TableFault::NotWhole { row, col }),
         Err(NumberFault::OutOfRange) => Err(TableFault::OutOfRange { row, col }),
     }
+}
+
+/// The row of these fields; `count` says how many they are, which is asked before any is read.
+pub(crate) fn row_of_fields<'text, Fields: Iterator<Item = &'text [u8]> + Drop>(
+    schema: &Schema,
+    row: u64,
+    count: usize,
+    mut fields: Fields,
+) -> Result<Row, TableFault>
+    requires can { Fields.can_next fields }
+    requires ends { IsFinite (Fields.remaining fields) }
+    ensures { (texts : List (List ℕ)) → AlwaysYields Fields.next_gives (λ field. field.now) fields texts → count ≡ length texts
+        → result ≡ row_of (length schema.now) row texts }
+{
+    let width = schema.width();
+    if count != width {
+        return Err(TableFault::Width { row });
+    }
+    let mut cells = [0; MAX_COLUMNS];
+    for col in 0..width {
+        let Some(field) = fields.next() else {
+            // Not met where `count` is right.
+            return Err(TableFault::Width { row });
+        };
+        cells[col] = cell_at(row, col as u64 + 1, field)?;
+    }
+    Ok(Row::of_cells(cells))
 }

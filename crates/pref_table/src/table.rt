@@ -1,5 +1,5 @@
 //! A table from its text.
-ghost use Rattle.std.specs.Prelude.{◌≡◌, ◌++◌, true, ◌<◌, ◌≤◌, ℕ, List, drop, length, map, IfOk, IfErr, slice_get};
+ghost use Rattle.std.specs.Prelude.{◌≡◌, ◌++◌, true, ◌<◌, ◌≤◌, ℕ, List, drop, length, map, IfOk, IfErr};
 ghost use Rattle.csv.specs.Records.{fields_of};
 ghost use Rattle.pref_table.specs.Lines.{IsLineEnd, IsPlainLine, header_names, rows_with};
 ghost use Rattle.pref_table.specs.Names.{schema_of};
@@ -13,8 +13,8 @@ use crate::fault::TableFault;
 use crate::lines::{cut_header, plain_rows};
 use crate::number::trim_blanks;
 use crate::records::{Next, next_in};
-use crate::row::{Row, cell_at};
-use crate::schema::{MAX_COLUMNS, Schema};
+use crate::row::{Row, row_of_fields};
+use crate::schema::Schema;
 use csv::{ByteRecord, Reader, ReaderBuilder};
 use std::alloc::Global;
 
@@ -84,23 +84,13 @@ fn next_record<'text>(from: &mut Records<'_>, text: &'text [u8]) -> Result<Next<
     Ok(next)
 }
 
-fn field_of(row: &ByteRecord, col: usize) -> &[u8]
-    requires { col < length (fields_of row.now) }
-    ensures { slice_get (fields_of row.now) col ≡ Some result.now }
-{
-    let Some(field) = row.get(col) else {
-        unreachable!()
-    };
-    field
-}
-
 /// The schema of a header.
 fn read_schema(alloc: Global, header: &ByteRecord) -> Result<Schema, TableFault>
     ensures { Gives (λ schema. schema) result (schema_of (map without_blanks (fields_of header.now))) }
 {
     let mut names: Vec<&[u8]> = Vec::new(alloc);
-    for col in 0..header.len() {
-        names.push(trim_blanks(field_of(header, col)))?;
+    for field in header {
+        names.push(trim_blanks(field))?;
     }
     Schema::new(alloc, names.as_slice())
 }
@@ -108,15 +98,7 @@ fn read_schema(alloc: Global, header: &ByteRecord) -> Result<Schema, TableFault>
 fn record_row(schema: &Schema, row: u64, cells_text: &ByteRecord) -> Result<Row, TableFault>
     ensures { result ≡ row_of (length schema.now) row (fields_of cells_text.now) }
 {
-    let width = schema.width();
-    if cells_text.len() != width {
-        return Err(TableFault::Width { row });
-    }
-    let mut cells = [0; MAX_COLUMNS];
-    for col in 0..width {
-        cells[col] = cell_at(row, col as u64 + 1, field_of(cells_text, col))?;
-    }
-    Ok(Row::of_cells(cells))
+    row_of_fields(schema, row, cells_text.len(), cells_text.iter())
 }
 
 /// Reads the names in the first record of a text, and gives what follows it.
