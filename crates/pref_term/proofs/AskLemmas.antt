@@ -1,5 +1,5 @@
 -- What the parts of the reader promise that read what stands around a term, and skyline clauses.
-use Rattle.pref_term.proofs.Common.{◌≡◌, arith, ℕ, List, [], ◌∷◌, ◌++◌, length, map, Bool, true, false, Option, Some, None, Ok, refl, sym, ap, subst, ◌∙◌, append-nil, All, IfSome, cond}
+use Rattle.pref_term.proofs.Common.{◌≡◌, arith, ℕ, List, [], ◌∷◌, ◌++◌, length, Bool, true, false, Option, Some, None, Ok, refl, sym, ap, subst, ◌∙◌, append-nil, All, IfSome, cond}
 use Rattle.pref_term.proofs.Common.{All-append, comma, word, digits, sign, finish, Placed, best_word, by_word, keyword_of, skyline_word, of_word}
 use Rattle.pref_term.proofs.Common.{cased_of, Direction, direction_word, DimText, HeadText, best_head, PriorText}
 use Rattle.pref_term.proofs.Common.{AskText, name, column_name, count_digits, cased, last, Names, column_at, mode_of, order_by, group_by, orders_of, groups_of, product_of, bad_count}
@@ -13,7 +13,7 @@ use Rattle.std.proofs.lemmas.List.Sums.{fold-append}
 use Rattle.std.proofs.lemmas.Grind.{flat_map-append}
 use Rattle.pref_term.proofs.GrammarComplete.{dim_of, direction_next}
 use Rattle.pref_term.proofs.DistinctLemmas.{product_is_clause}
-use Rattle.pref_term.proofs.LedLemmas.{at_place, column_is, goes_then, goes_fails, passes_goes, column_good, unless_map, all_one, mapped_more, neither_fails, sign_behind}
+use Rattle.pref_term.proofs.LedLemmas.{at_place, column_is, goes_then, goes_fails, passes_goes, column_good, unless_map, all_one, neither_fails, one_more, sign_behind}
 
 -- the end, behind all
 ended : (names : Names) (ts us : List Placed) (s m : State) (a : AskText) → Goes names s ts m us → Passes finish us [] → next m finish ≡ Some (last, done a) → (p : ℕ) → run names ts p s ≡ Ok a
@@ -30,39 +30,21 @@ column_goes names ts us col s behind w t = passes_goes names (word t.letters) ts
 -- ---- the columns of a group
 
 pub columns_none : (names : Names) (ts : List Placed) → ReadsSomeColumns names ts [] ts
-columns_none names ts = record { some = []; meaning = refl; known = All-nil (IsKnown names); goes = λ head r p. (p, refl) }
+columns_none names ts = record { tree = []; meaning = refl; fits = All-nil (IsKnown names); goes = λ head r p. (p, refl) }
 
 pub columns_fail : (names : Names) (ts us : List Placed) (columns : List ℕ) (f : TermFault) → ReadsSomeColumns names ts columns us → FailsColumn names us f → FailsColumns names ts f
-columns_fail names ts us columns f r n = record { fails = λ head p. goes_fails names _ _ ts us f (r.goes head p) (n.fails _ _ (wants_group head p r.some)) }
+columns_fail names ts us columns f r n = record { fails = λ head p. goes_fails names _ _ ts us f (r.goes head p) (n.fails _ _ (wants_group head p r.tree)) }
 
 -- one column more, and what is behind it
 module _ (names : Names) (ts us vs : List Placed) (columns : List ℕ) (col : ℕ) (r : ReadsSomeColumns names ts columns us) (t : TakesColumn names us col vs) where
-  columns_go : (head : HeadText) (p : PriorText) → Goes names (group_due head p []) ts (with_next (group_listed head p) r.some t.letters) vs
-  columns_go head p = goes_then names _ _ _ ts us vs (r.goes head p) (column_goes names us vs col _ _ (wants_group head p r.some) t)
-
-  columns_are : map (column_at names) (r.some ++ t.letters ∷ []) ≡ columns ++ col ∷ []
-  columns_are = mapped_more (column_at names) r.some t.letters columns col r.meaning (column_is names t.letters col t.found.place)
-
-  columns_known : All (IsKnown names) (columns ++ col ∷ [])
-  columns_known = All-append (IsKnown names) columns (col ∷ []) r.known (all_one (IsKnown names) col t.found.known)
+  columns_go : (head : HeadText) (p : PriorText) → Goes names (group_due head p []) ts (with_next (group_listed head p) r.tree t.letters) vs
+  columns_go head p = goes_then names _ _ _ ts us vs (r.goes head p) (column_goes names us vs col _ _ (wants_group head p r.tree) t)
 
   pub columns_more : (ws : List Placed) → Passes (sign comma) vs ws → ReadsSomeColumns names ts (columns ++ col ∷ []) ws
-  columns_more ws c =
-      record {
-        some = r.some ++ t.letters ∷ [];
-        meaning = columns_are;
-        known = columns_known;
-        goes = λ head p. sign_behind names ts vs ws _ _ _ comma (columns_go head p) c (grind arith);
-      }
+  columns_more ws c = one_more (IsKnown names) r t.letters col (column_is names t.letters col t.found.place) t.found.known ws (λ head p. sign_behind names ts vs ws _ _ _ comma (columns_go head p) c (grind arith))
 
   pub columns_all : (at : ℕ) → vs ≡ at_place finish at ∷ [] → ReadsColumns names ts (columns ++ col ∷ [])
-  columns_all at e =
-      record {
-        some = r.some ++ t.letters ∷ [];
-        meaning = columns_are;
-        known = columns_known;
-        goes = λ head p. ended names ts vs _ _ _ (columns_go head p) (at, e) (grind arith);
-      }
+  columns_all at e = one_more (IsKnown names) r t.letters col (column_is names t.letters col t.found.place) t.found.known [] (λ head p. ended names ts vs _ _ _ (columns_go head p) (at, e) (grind (arith)))
 
   pub columns_stuck : (f : TermFault) (t : Lexeme) → vs ≡ taken t → seen t.token ≢ finish → IsOther (sign comma) vs f → FailsColumns names ts f
   columns_stuck f t e n nc =
@@ -247,7 +229,7 @@ known_ask : (names : Names) (p : Preference) (group : List ℕ) (mode : Mode) �
 known_ask names p group mode h g k distinct clause = let term = term_is names p h in (grind (arith, term_is), record { preference = term.1; group = λ i d b. let a = g i d b in a.1 })
 
 pub rated_known : (names : Names) (ts us : List Placed) (p : Preference) (group : List ℕ) (mode : Mode) → ReadsPrior names 0 ts p us → ReadsGrouping names us group → IsCount (cut_of mode) → IsKnownAsk names (record { preference = p; group = group; mode = mode; distinct = false })
-rated_known names ts us p group mode r g k = known_ask names p group mode r.products.known g.known k false (λ h. absurd (false≢true h))
+rated_known names ts us p group mode r g k = known_ask names p group mode r.products.known g.fits k false (λ h. absurd (false≢true h))
 
 pub clause_known : (names : Names) (ts : List Placed) (p : Preference) (group : List ℕ) (distinct : Bool) → ReadsClause names ts (Some p) group → IsKnownAsk names (record { preference = p; group = group; mode = Best; distinct = distinct })
 clause_known names ts p group distinct r = known_ask names p group Best r.product_known r.group_known (omega arith, omega arith) distinct (λ _. record { mode = refl; preference = product_is_clause names (r.first ∷ r.others) p r.product_is })

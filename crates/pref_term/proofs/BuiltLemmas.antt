@@ -1,5 +1,5 @@
 -- What building a question finds of its parts.
-use Rattle.pref_term.proofs.Common.{ℕ, Bool, true, List, ◌≡◌, arith, refl, subst, sym, Result, MatchResult, IsErrAnd}
+use Rattle.pref_term.proofs.Common.{ℕ, Bool, true, List, ◌≡◌, refl, subst, sym, Result, MatchResult}
 use Rattle.pref_term.proofs.Common.{Preference, Question, IsAsk, IsClause, Mode, inl, inr}
 use Rattle.pref_term.proofs.Common.{Some, None}
 use Rattle.pref_term.specs.Built.{IsRefused, IsRefusedFor, first_fault}
@@ -14,12 +14,6 @@ refused_for q f h = subst (λ found. IsRefusedFor q found f) (sym h) refl
 -- nothing was found, and no clause means the term
 pub no_clause : (q : Question) → first_fault q.preference q.group q.mode ≡ None → q.distinct ≡ true → (IsClause q.preference → ⊥) → IsRefused q NotSkyline
 no_clause q none distinct other = subst (λ found. IsRefusedFor q found NotSkyline) (sym none) (inl (refl, distinct, λ skyline. other skyline.preference))
-
--- ---- results
-
--- what a `?` hands on
-pub refused_exit : {T : Type 0} {f : AskFault} (r : Result T AskFault) (P : T → Type 0) (Q : AskFault → Type 0) → IsErrAnd r (λ g. g ≡ f) → Q f → MatchResult r P Q
-refused_exit r P Q h k = grind (arith)
 
 -- ---- questions
 

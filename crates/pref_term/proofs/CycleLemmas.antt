@@ -1,12 +1,12 @@
 -- What the parts of the reader that call each other promise.
 use Rattle.pref_term.proofs.Common.{◌≡◌, ◌<◌, ◌+◌, ℕ, List, ◌∷◌, Bor, Result, true, cond, Some, None, nat_lt, refl, sym, ap, subst, ◌∙◌, arith, ◌≢◌, nat_tests, Sign}
 use Rattle.pref_term.proofs.Common.{left, right, star, ampersand, minus, Token, word, sign, Placed, reverse_word, keyword_of, based, reversed, negated, then_factor}
-use Rattle.pref_term.proofs.Common.{then_product, one_factor, one_product, first_product, ProductHole, PriorHole, product_depth, prior_depth, name, mark, opens, Names, own_fault, too_deep, unary_meaning, product_meaning, BaseKind, kind_word, named, UnaryHole, in_minus}
-use Rattle.pref_term.proofs.Common.{first_factor, next_factor, next_product, in_group, in_reverse, unary_depth, State, operand, reverse_named, reading, after, completed, ranked, next}
+use Rattle.pref_term.proofs.Common.{then_product, one_factor, one_product, first_product, ProductHole, PriorHole, product_depth, prior_depth, name, opens, Names, own_fault, too_deep, unary_meaning, product_meaning, BaseKind, kind_word, named, UnaryHole, in_minus}
+use Rattle.pref_term.proofs.Common.{first_factor, next_factor, next_product, in_group, in_reverse, unary_depth, State, operand, reverse_named, reading, completed, ranked, next}
 use Rattle.pref_term.proofs.Common.{operand_word, Goes, Fails, IsOther, Passes, ReadsBase, ReadsUnary, ReadsFactors, ReadsProducts, ReadsProduct, ReadsPrior, ReadsGroup, FailsBase, NotNext, ahead, taken, seen, Unexpected, TooDeep, ◌≤◌}
 use Rattle.pref_term.proofs.Common.{FailsUnary, FailsOpened, ReadsOpened, scored, low, high, low_kind, high_kind, low_word, high_word, FailsGroup, FailsProduct, FailsPrior, Parses, grouped, Ok, Err, Preference, pareto, prior, reverse, Cursor, Lexeme, Word, Term, TermFault, preference_of}
 use Rattle.pref_term.proofs.GrammarComplete.{ranked_goes_on, ranked_right}
-use Rattle.pref_term.proofs.LedLemmas.{at_place, goes_then, goes_fails, high_read, low_read, opened_base_fails, passes_goes, taken_is}
+use Rattle.pref_term.proofs.LedLemmas.{at_place, goes_then, goes_fails, high_read, low_read, opened_base_fails, passes_goes, sign_behind, taken_is}
 
 -- ---- nestings
 
@@ -69,8 +69,8 @@ module _ (names : Names) (depth inside at : ℕ) (ts us : List Placed) (room : d
           tree = r.products.tree;
           meaning = r.products.meaning;
           known = r.products.known;
-          goes = λ h e. goes_then names _ _ _ ts vs ws (group_goes h e) (passes_goes names (sign right) vs ws _ _ (mark right) d (ranked_right (in_group h) r.products.tree) refl);
-          goes_reversed = λ h e. goes_then names _ _ _ ts vs ws (reverse_goes h e) (passes_goes names (sign right) vs ws _ _ (mark right) d (ranked_right (in_reverse h) r.products.tree) refl);
+          goes = λ h e. sign_behind names ts vs ws _ _ _ right (group_goes h e) d (ranked_right (in_group h) r.products.tree);
+          goes_reversed = λ h e. sign_behind names ts vs ws _ _ _ right (reverse_goes h e) d (ranked_right (in_reverse h) r.products.tree);
         }
 
     pub group_end_fails : (f : TermFault) → IsOther (sign right) vs f → FailsGroup names depth ts f
@@ -142,7 +142,7 @@ one_factor_read names depth ts us p r = record { tree = one_factor r.tree; meani
 -- behind a sign, one factor more
 module _ (names : Names) (depth : ℕ) (ts us vs : List Placed) (p : Preference) (r : ReadsFactors names depth ts p us) (at : ℕ) (c : us ≡ at_place (sign star) at ∷ vs) where
   star_goes : (h : ProductHole) → product_depth h ≡ depth → Goes names (operand (first_factor h)) ts (operand (next_factor h r.tree)) vs
-  star_goes h e = goes_then names _ _ _ ts us vs (r.goes h e) (passes_goes names (sign star) us vs (after h r.tree) (operand (next_factor h r.tree)) (mark star) (at, c) refl refl)
+  star_goes h e = sign_behind names ts us vs _ _ _ star (r.goes h e) (at, c) refl
 
   pub more_factors : (ws : List Placed) (q : Preference) → ReadsUnary names depth vs q ws → ReadsFactors names depth ts (pareto p q) ws
   more_factors ws q u =
@@ -164,8 +164,7 @@ one_product_read names depth ts us p r =
 -- behind a sign, one product more
 module _ (names : Names) (depth : ℕ) (ts us vs : List Placed) (p : Preference) (r : ReadsProducts names depth ts p us) (at : ℕ) (c : us ≡ at_place (sign ampersand) at ∷ vs) where
   ampersand_goes : (h : PriorHole) → prior_depth h ≡ depth → Goes names (operand (first_factor (first_product h))) ts (operand (first_factor (next_product h r.tree))) vs
-  ampersand_goes h e =
-      goes_then names _ _ _ ts us vs (r.goes h e) (passes_goes names (sign ampersand) us vs (ranked h r.tree) (operand (first_factor (next_product h r.tree))) (mark ampersand) (at, c) (ranked_goes_on h r.tree) refl)
+  ampersand_goes h e = sign_behind names ts us vs _ _ _ ampersand (r.goes h e) (at, c) (ranked_goes_on h r.tree)
 
   pub more_products : (ws : List Placed) (q : Preference) → ReadsProduct names depth vs q ws → ReadsProducts names depth ts (prior p q) ws
   more_products ws q u =

@@ -1,16 +1,16 @@
 -- What was read up to a state grows by the leaf of each token.
-use Rattle.pref_term.proofs.Common.{arith, ◌≡◌, ℕ, List, [], ◌∷◌, ◌++◌, Bool, true, false, Option, refl, sym, ap, subst, ◌∙◌, append_assoc, append-nil, IfSome, find, bytes_eq}
-use Rattle.pref_term.proofs.Common.{str_to_ascii_lowercase, bytes_eq-Decides, left, right, comma, star, ampersand, left_brace, right_brace, Token, word, digits, sign, finish, Keyword}
+use Rattle.pref_term.proofs.Common.{arith, ◌≡◌, ℕ, List, [], ◌∷◌, ◌++◌, Bool, true, Option, refl, sym, ap, subst, ◌∙◌, append_assoc, append-nil, IfSome, find, bytes_eq}
+use Rattle.pref_term.proofs.Common.{str_to_ascii_lowercase, bytes_eq-Decides, left, right, comma, star, left_brace, right_brace, Token, word, sign, finish, Keyword}
 use Rattle.pref_term.proofs.Common.{CasedWord, skyline_word, of_word, min_word, max_word, diff_word, letters_of, outer_words, base_words, keyword_of}
 use Rattle.pref_term.proofs.Common.{cased_letters, cased_of, HeadText, DimText, dim_leaves, IsWritten, NumberText, PriorText, ProductText}
 use Rattle.pref_term.proofs.Common.{UnaryText, negated, Leaf, name, mark, column_name, cased, number_leaves, base_leaves, prior_leaves, product_leaves}
 use Rattle.pref_term.proofs.Common.{unary_leaves, token_of, signed_leaves, layered_word, SetText, set_leaves, NumberHole}
-use Rattle.pref_term.proofs.Common.{next_of, BasePart, columned, number_due, number_signed, listed, hole_leaves, part_leaves, BaseStep, part, whole_base, filled, base_next}
+use Rattle.pref_term.proofs.Common.{next_of, BasePart, listed, hole_leaves, part_leaves, BaseStep, part, whole_base, filled, base_next}
 use Rattle.pref_term.proofs.Common.{PriorHole, ProductHole, first_product, next_product, UnaryHole, first_factor, next_factor, in_minus, prior_depth, product_depth}
-use Rattle.pref_term.proofs.Common.{unary_depth, before_prior, before_product, before_unary, State, start, operand, reverse_named, reading, after, group_due}
+use Rattle.pref_term.proofs.Common.{unary_depth, before_prior, before_product, before_unary, State, start, operand, reading, after, group_due}
 use Rattle.pref_term.proofs.Common.{group_listed, skyline_named, dim_named, dims_listed, read_of, completed, outer, closed, begun, of_named, directed}
-use Rattle.pref_term.proofs.Common.{grouped_by, operand_word, carried, parted, finished, next, end_of, least_of, range_ended, in_pos, in_set, set_due}
-use Rattle.pref_term.proofs.Common.{sets_listed, after_commas, column_leaves, before_next, with_next, count_due}
+use Rattle.pref_term.proofs.Common.{grouped_by, operand_word, carried, parted, finished, next, end_of, least_of, in_set}
+use Rattle.pref_term.proofs.Common.{sets_listed, after_commas, column_leaves, before_next, with_next}
 use Rattle.std.proofs.lemmas.Option.{IfSome_then}
 
 -- one more at the end of some
@@ -43,19 +43,7 @@ abbrev pub Grows : List Leaf → Token → Leaf → List Leaf → Type 0
 Grows before t leaf now = (token_of leaf ≡ t) × (now ≡ before ++ leaf ∷ []) × IsWritten leaf
 
 pub base_grows : (b : BasePart) (t : Token) → IfSome (base_next b t) (λ r. Grows (part_leaves b) t r.0 (step_leaves r.1))
-base_grows (number_due n) (digits ds) = (refl, hole_filled n (record { negative = false; digits = ds }), tt)
-base_grows (number_signed n) (digits ds) = (refl, hole_filled n (record { negative = true; digits = ds }) ∙ simp append_assoc, tt)
-base_grows (columned k column) t = grind arith
-base_grows (range_ended column l r) (sign right) = (refl, simp append_assoc, tt)
-base_grows (listed l first others) (sign comma) = (refl, simp append_assoc, tt)
-base_grows (listed (in_pos column) first others) (sign right) = (refl, simp append_assoc, tt)
-base_grows (listed (in_set column sets) first others) (sign right_brace) = (refl, set_closed column sets first others, tt)
-base_grows (listed (in_pos column) first others) _ = tt
-base_grows (listed (in_set column sets) first others) _ = tt
-base_grows (set_due column sets) (sign left_brace) = (refl, simp append-nil, tt)
-base_grows (sets_listed column first others) (sign comma) = (refl, simp append_assoc, tt)
-base_grows (sets_listed column first others) (sign right) = (refl, simp append_assoc, tt)
-base_grows b t = grind arith
+base_grows b t = grind (arith, append_assoc, append-nil, hole_filled, set_closed)
 
 -- a whole factor stands behind what was read before it
 pub completed_read : (h : UnaryHole) (u : UnaryText) → read_of (completed h u) ≡ before_unary h ++ unary_leaves u (unary_depth h)
@@ -118,21 +106,12 @@ pub next_grows : (s : State) (t : Token) → IfSome (next s t) (λ r. Grows (rea
 next_grows start (word letters) = begun_grows letters (keyword_of letters) (cased_of letters) (keyword_letters letters) (cased_written letters)
 next_grows (operand h) (word letters) = operand_word_grows h (keyword_of letters) letters (keyword_letters letters)
 next_grows (reading h b) t = carried_grows h b t (base_next b t) (base_grows b t)
-next_grows (after h p) (sign ampersand) = (refl, sym (ap (λ ls. ls ++ mark ampersand ∷ []) (closed_read h p) ∙ append_assoc (before_prior (outer h)) (prior_leaves (closed h p) (prior_depth (outer h))) (mark ampersand ∷ [])), tt)
-next_grows (after h p) (sign right) =
-    subst (λ (ls : List Leaf). IfSome (parted (outer h) (closed h p)) (λ r. Grows ls (sign right) r.0 (read_of r.1))) (sym (closed_read h p)) (parted_grows (outer h) (closed h p))
-next_grows (after h p) finish =
-    subst (λ (ls : List Leaf). IfSome (finished (outer h) (closed h p)) (λ r. Grows ls finish r.0 (read_of r.1))) (sym (closed_read h p)) (finished_grows (outer h) (closed h p))
+next_grows (after h p) (sign star) = grind (arith, append_assoc)
+next_grows (after h p) (sign s) = grind (arith, append_assoc, closed_read h p, parted_grows (outer h) (closed h p))
+next_grows (after h p) finish = grind (arith, closed_read h p, finished_grows (outer h) (closed h p))
 next_grows (after h p) (word letters) =
     subst (λ (ls : List Leaf). IfSome (grouped_by (outer h) (closed h p) (keyword_of letters)) (λ r. Grows ls (word letters) r.0 (read_of r.1))) (sym (closed_read h p)) (grouped_by_grows (outer h) (closed h p) (keyword_of letters) letters (keyword_letters letters))
-next_grows (count_due k) t = grind arith
 next_grows (group_due head r columns) (word letters) = (refl, column_listed head r columns letters, tt)
 next_grows (skyline_named s) (word letters) = of_grows s letters (cased_of letters) (cased_written letters)
 next_grows (dim_named s o dims column) (word letters) = directed_grows s o dims column letters (cased_of letters) (cased_written letters)
-next_grows (reverse_named h) (sign left) = (refl, simp append_assoc, tt)
-next_grows (after h p) (sign star) = (refl, simp append_assoc, tt)
-next_grows (group_listed head r first others) (sign comma) = (refl, simp append_assoc, tt)
-next_grows (group_listed head r first others) finish = (refl, simp append_assoc, tt)
-next_grows (dims_listed s o first others) (sign comma) = (refl, simp append_assoc, tt)
-next_grows (dims_listed s o first others) finish = (refl, simp append_assoc, tt)
-next_grows s t = grind arith
+next_grows s t = grind (arith, append_assoc)

@@ -1,8 +1,8 @@
 -- The key law: keys compare rows as scores do; and the product of the keys that lead a preference without a priority is its order.
-use Rattle.pref_term.proofs.Common.{◌≡◌, ◌<◌, ℤ, pos, Bool, true, false, not, List, [], ◌∷◌, ◌++◌, refl, sym, ap, subst, ◌∙◌, arith, ◌^◌, ◌-ℤ◌, ◌+ℤ◌, neg_ℤ, unsigned_abs}
+use Rattle.pref_term.proofs.Common.{◌≡◌, ◌<◌, ℤ, pos, Bool, true, not, List, [], ◌∷◌, ◌++◌, refl, sym, ap, subst, ◌∙◌, arith, ◌^◌, ◌-ℤ◌, ◌+ℤ◌, neg_ℤ, unsigned_abs}
 use Rattle.pref_term.proofs.Common.{All, false≢true, ints, All-append, All-cons, All-nil, missed, outside, score, sets_before, ReadsBelow, column, by_key, by_keys, is_number}
 use Rattle.pref_term.proofs.Common.{is_product, key_for, leading, opposed, and_parts, Base, Preference, scored, pareto, prior, reverse, by_scores}
-use Rattle.pref_term.proofs.Common.{by_sides, in_priority, in_product, is_better, Key, Relation, Neither, Same}
+use Rattle.pref_term.proofs.Common.{in_priority, in_product, Key, Relation, Same}
 use Rattle.pref_term.proofs.Common.{find, int_eq, list_any}
 use Rattle.std.specs.Prelude.{◌||◌}
 use Rattle.std.specs.Option.{option_map_or}
@@ -33,18 +33,6 @@ both_ways t x y a b h k s = grind (arith, turned)
 -- the key law
 pub key_law : (t : Base) (s : Bool) (a b : List ℤ) → by_key (key_for t s) a b ≡ directed s (scored t) a b
 key_law t s a b = grind (arith, both_ways, raised, turned, negated, centred, one_missed)
-
--- ---- products
-
--- neither row can be better any more
-pub decided : (better worse first second : Bool) (key : Key) (keys : List Key) (a b : List ℤ) → by_sides first second ≡ by_key key a b → (better || first) ≡ true → (worse || second) ≡ true
-    → in_product (by_sides better worse) (by_keys (key ∷ keys) a b) ≡ Neither
-decided better worse first second key keys a b h k l = grind arith
-
--- the first row cannot be better any more
-pub spoiled : (better first second : Bool) (key : Key) (keys : List Key) (a b : List ℤ) → by_sides first second ≡ by_key key a b → second ≡ true
-    → is_better (in_product (by_sides better false) (by_keys (key ∷ keys) a b)) ≡ false
-spoiled better first second key keys a b h k = grind arith
 
 -- ---- converses
 

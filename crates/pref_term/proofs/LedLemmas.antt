@@ -5,7 +5,7 @@ use Rattle.pref_term.proofs.Common.{between_text, Names, UnlessMemory, own_fault
 use Rattle.pref_term.proofs.Common.{low_kind, high_kind, around_kind, pos_kind, centre_of, named, opened, columned, number_due, centred, listed, filled}
 use Rattle.pref_term.proofs.Common.{NumberHole, UnaryHole, State, reading, completed, run, next, between_kind, start_of, end_of, least_of, ranged, NumberList, in_pos}
 use Rattle.pref_term.proofs.Common.{closing, list_closed, stepped, seen, ahead, taken, behind_token, Cursor, Lexeme, Digits, Goes, Fails, IsOther, NotNext, Passes, WantsColumn, TakesColumn}
-use Rattle.pref_term.proofs.Common.{ReadsOpened, FailsColumn, FailsOpened, ReadsNumber, ReadsSome, ReadsNumbers, ReadsBase, FailsNumber, FailsNumbers, FailsBase}
+use Rattle.pref_term.proofs.Common.{ReadsTree, ReadsOpened, FailsColumn, FailsOpened, ReadsNumber, ReadsSome, ReadsNumbers, ReadsBase, FailsNumber, FailsNumbers, FailsBase}
 use Rattle.pref_term.proofs.Common.{first_place, word_ahead, behind_column, TermFault, EmptyRange, NumberRange, All, FitsSigned, ◌≢◌, IsErrAnd, IfErr, MatchResult, unwrap_or, int_lt, Option, scored, low}
 use Rattle.pref_term.proofs.Common.{high, around, one_of, between, all_ascii_digits, to_z, of_z, to_z-of_z, map-append, All-append, All-cons, All-nil, next_of}
 use Rattle.pref_term.proofs.Common.{FailsSets, IsWritableSet, ReadsSets, ReadsSomeSets, SetText, in_set, layered, layered_kind, layered_text, left_brace, right_brace, set_due, set_value, sets_listed, with_next}
@@ -119,14 +119,20 @@ below_of l r least value test e f k = ap (below (Some l)) f ∙ (ap (λ x. cond 
 pub err_exit : {T : Type 0} {f : TermFault} (r : Result T TermFault) (P : TermFault → Type 0) → IsErrAnd r (λ g. g ≡ f) → P f → IfErr r P
 err_exit r P h k = grind (arith)
 
-pub fault_exit : {T : Type 0} {f : TermFault} (r : Result T TermFault) (Q : T → Type 0) (P : TermFault → Type 0) → IsErrAnd r (λ g. g ≡ f) → P f → MatchResult r Q P
+pub fault_exit : {T E : Type 0} {f : E} (r : Result T E) (Q : T → Type 0) (P : E → Type 0) → IsErrAnd r (λ g. g ≡ f) → P f → MatchResult r Q P
 fault_exit r Q P h k = grind (arith)
 
--- ---- the numbers of a list
+-- ---- numbers
 
 -- a number as the code keeps it
 abbrev pub kept : ℤ → ℤ
 kept v = to_z w64 (of_z w64 v)
+
+kept_is : {us vs : List Placed} {v : ℤ} → ReadsNumber us v vs → v ≡ kept v
+kept_is {us} {vs} {v} n = sym (to_z-of_z w64 v n.fits)
+
+kept_fits : {us vs : List Placed} {v : ℤ} → ReadsNumber us v vs → FitsSigned w64 (kept v)
+kept_fits n = subst (FitsSigned w64) (kept_is n) n.fits
 
 pub all_one : {X : Type 0} (P : X → Type 0) (x : X) → P x → All P (x ∷ [])
 all_one P x h = All-cons P x [] h (All-nil P)
@@ -134,47 +140,52 @@ all_one P x h = All-cons P x [] h (All-nil P)
 pub cons_not_none : {A : Type 0} {x : A} {xs : List A} → (x ∷ xs) ≢ []
 cons_not_none h = cc
 
-list_closes : (h : UnaryHole) (l : NumberList) (first : NumberText) (others : List NumberText) (close : Sign) → closing l ≡ close → next (reading h (listed l first others)) (sign close) ≡ Some (mark close, stepped h (list_closed l first others))
-list_closes h l first others close e = subst (λ (s : Sign). next (reading h (listed l first others)) (sign s) ≡ Some (mark s, stepped h (list_closed l first others))) e (list_ends h l first others)
+abbrev set_of : NumberText → List NumberText → SetText
+set_of first others = record { first = first; others = others }
+
+-- the numbers of a list, which has one
+pub numbers_fit : {close : Sign} {ts us : List Placed} {set : List ℤ} → ReadsNumbers close ts set us → IsWritableSet set
+numbers_fit n = (subst (λ (set : List ℤ). set ≢ []) n.meaning cons_not_none, n.fits)
+
+-- ---- one more behind some, in a list with commas
+
+module _ {X A : Type 0} {value : X → A} (Fits : A → Type 0) {Leads : List X → List Placed → List Placed → Type 0} {ts us : List Placed} {values : List A} (r : ReadsTree (map value) (All Fits) Leads ts values us) (x : X) (v : A) (e : value x ≡ v) (f : Fits v) where
+  more_meant : map value (r.tree ++ x ∷ []) ≡ values ++ v ∷ []
+  more_meant = map-append value r.tree (x ∷ []) ∙ cc (r.meaning, e)
+
+  more_fit : All Fits (values ++ v ∷ [])
+  more_fit = All-append Fits values (v ∷ []) r.fits (all_one Fits v f)
+
+  pub one_more : {More : List X → List Placed → List Placed → Type 0} (vs : List Placed) → More (r.tree ++ x ∷ []) ts vs → ReadsTree (map value) (All Fits) More ts (values ++ v ∷ []) vs
+  one_more vs goes = record { tree = r.tree ++ x ∷ []; meaning = more_meant; fits = more_fit; goes = goes }
+
+  -- the last one
+  pub one_last : {S : Type 0} {means : S → List A} {Ends : S → List Placed → List Placed → Type 0} (whole : X → List X → S) → ((first : X) (others : List X) → means (whole first others) ≡ value first ∷ map value others) → (vs : List Placed) → Ends (with_next whole r.tree x) ts vs → ReadsTree means (All Fits) Ends ts (values ++ v ∷ []) vs
+  one_last whole is vs goes = record { tree = with_next whole r.tree x; meaning = grind (arith, is, more_meant); fits = more_fit; goes = goes }
+
+-- ---- the numbers of a list
+
+list_closes : (h : UnaryHole) (l : NumberList) (some : List NumberText) (n : NumberText) (close : Sign) → closing l ≡ close → let set = with_next set_of some n in next (reading h (with_next (listed l) some n)) (sign close) ≡ Some (mark close, stepped h (list_closed l set.first set.others))
+list_closes h l some n close e = grind (arith, list_ends)
 
 -- the first number is due
 pub some_none : (close : Sign) (ts : List Placed) → ReadsSome close ts [] ts
-some_none close ts = record { some = []; fits = All-nil (FitsSigned w64); values_are = refl; goes = λ names h l e p. (p, refl) }
-
-pub mapped_more : {A B : Type 0} (f : A → B) (some : List A) (x : A) (values : List B) (v : B) → map f some ≡ values → f x ≡ v → map f (some ++ x ∷ []) ≡ values ++ v ∷ []
-mapped_more f some x values v e k = map-append f some (x ∷ []) ∙ (ap (λ ys. ys ++ f x ∷ []) e ∙ ap (λ y. values ++ y ∷ []) k)
+some_none close ts = record { tree = []; meaning = refl; fits = All-nil (FitsSigned w64); goes = λ names h l e p. (p, refl) }
 
 pub some_value_fails : (close : Sign) (ts us : List Placed) (values : List ℤ) (f : TermFault) → ReadsSome close ts values us → FailsNumber us f → FailsNumbers close ts f
-some_value_fails close ts us values f r n = record { fails = λ names h l e. goes_fails names _ _ ts us f (r.goes names h l e) (n.fails names h (next_of l r.some)) }
+some_value_fails close ts us values f r n = record { fails = λ names h l e. goes_fails names _ _ ts us f (r.goes names h l e) (n.fails names h (next_of l r.tree)) }
 
 -- one number more, and the sign behind it
 module _ (close : Sign) (ts us vs : List Placed) (values : List ℤ) (v : ℤ) (r : ReadsSome close ts values us) (n : ReadsNumber us v vs) where
-  same : v ≡ kept v
-  same = sym (to_z-of_z w64 v n.fits)
-
-  all_fit : All (FitsSigned w64) (values ++ kept v ∷ [])
-  all_fit = All-append (FitsSigned w64) values (kept v ∷ []) r.fits (all_one (FitsSigned w64) (kept v) (subst (FitsSigned w64) same n.fits))
-
-  all_goes : (names : Names) (h : UnaryHole) (l : NumberList) → closing l ≡ close → Goes names (reading h (number_due (next_of l []))) ts (reading h (filled (next_of l r.some) n.number)) vs
-  all_goes names h l e = goes_then names _ _ _ ts us vs (r.goes names h l e) (n.goes names h (next_of l r.some) refl)
+  all_goes : (names : Names) (h : UnaryHole) (l : NumberList) → closing l ≡ close → Goes names (reading h (number_due (next_of l []))) ts (reading h (filled (next_of l r.tree) n.number)) vs
+  all_goes names h l e = goes_then names _ _ _ ts us vs (r.goes names h l e) (n.goes names h (next_of l r.tree) refl)
 
   pub some_more : (ws : List Placed) → Passes (sign comma) vs ws → ReadsSome close ts (values ++ kept v ∷ []) ws
-  some_more ws c =
-      record {
-        some = r.some ++ n.number ∷ [];
-        fits = all_fit;
-        values_are = mapped_more number_value r.some n.number values (kept v) r.values_are (n.value_is ∙ same);
-        goes = λ names h l e. sign_behind names ts vs ws _ _ _ comma (all_goes names h l e) c (grind arith);
-      }
+  some_more ws c = one_more (FitsSigned w64) r n.number (kept v) (n.value_is ∙ kept_is n) (kept_fits n) ws (λ names h l e. sign_behind names ts vs ws _ _ _ comma (all_goes names h l e) c (grind (arith)))
 
   pub some_all : (at : ℕ) (ws : List Placed) → vs ≡ at_place (sign close) at ∷ ws → ReadsNumbers close ts (values ++ kept v ∷ []) ws
-  unfolding all_goes
-  some_all at ws e = go r.some (mapped_more number_value r.some n.number values (kept v) r.values_are (n.value_is ∙ same)) all_goes
-    where
-      go : (some : List NumberText) → map number_value (some ++ n.number ∷ []) ≡ values ++ kept v ∷ []
-          → ((names : Names) (h : UnaryHole) (l : NumberList) → closing l ≡ close → Goes names (reading h (number_due (next_of l []))) ts (reading h (filled (next_of l some) n.number)) vs) → ReadsNumbers close ts (values ++ kept v ∷ []) ws
-      go [] m goes = record { first = n.number; others = []; fits = all_fit; values_are = m; goes = λ names h l k. sign_behind names ts vs ws _ _ _ close (goes names h l k) (at, e) (list_closes h l n.number [] close k) }
-      go (f ∷ os) m goes = record { first = f; others = os ++ n.number ∷ []; fits = all_fit; values_are = m; goes = λ names h l k. sign_behind names ts vs ws _ _ _ close (goes names h l k) (at, e) (list_closes h l f (os ++ n.number ∷ []) close k) }
+  some_all at ws e =
+      one_last (FitsSigned w64) r n.number (kept v) (n.value_is ∙ kept_is n) (kept_fits n) set_of (λ first others. refl) ws (λ names h l k. sign_behind names ts vs ws _ _ _ close (all_goes names h l k) (at, e) (list_closes h l r.tree n.number close k))
 
   pub some_stuck : (f : TermFault) (t : Lexeme) → vs ≡ taken t → seen t.token ≢ sign close → IsOther (sign comma) vs f → FailsNumbers close ts f
   some_stuck f t e n nc = let nr = subst (NotNext (sign close)) (sym e) n in record { fails = λ names h l e. goes_fails names _ _ ts vs f (all_goes names h l e) (neither_fails names (sign comma) (sign close) vs f _ nc nr (λ u nc nr. grind (arith))) }
@@ -201,12 +212,6 @@ high_read names ts us col r =
       known = (r.found.known, tt);
       goes = λ h. r.goes h high_kind _ refl;
     }
-
-kept_is : {us vs : List Placed} {v : ℤ} → ReadsNumber us v vs → v ≡ kept v
-kept_is {us} {vs} {v} n = sym (to_z-of_z w64 v n.fits)
-
-kept_fits : {us vs : List Placed} {v : ℤ} → ReadsNumber us v vs → FitsSigned w64 (kept v)
-kept_fits n = subst (FitsSigned w64) (kept_is n) n.fits
 
 -- up to a centre
 centre_goes : (names : Names) (ts us vs : List Placed) (col : ℕ) (centre : ℤ) (r : ReadsOpened names comma ts col us) (n : ReadsNumber us centre vs) (h : UnaryHole) → Goes names (reading h (named around_kind)) ts (reading h (centred r.letters n.number)) vs
@@ -244,9 +249,9 @@ between_read names ts us vs ws xs ys col l r o n d m above e =
 pub pos_read : (names : Names) (ts us vs : List Placed) (col : ℕ) (set : List ℤ) → ReadsOpened names comma ts col us → ReadsNumbers right us set vs → ReadsBase names pos_kind ts (scored (one_of col set)) vs
 pos_read names ts us vs col set r n =
     record {
-      tree = pos_text r.letters n.first n.others;
-      meaning = ap (λ i. scored (one_of i (number_value n.first ∷ map number_value n.others))) (column_is names r.letters col r.found.place) ∙ ap (λ v. scored (one_of col v)) n.values_are;
-      known = (r.found.known, (subst (λ (set : List ℤ). set ≢ []) n.values_are cons_not_none, n.fits));
+      tree = pos_text r.letters n.tree.first n.tree.others;
+      meaning = ap (λ i. scored (one_of i (set_value n.tree))) (column_is names r.letters col r.found.place) ∙ ap (λ v. scored (one_of col v)) n.meaning;
+      known = (r.found.known, numbers_fit n);
       goes = λ h. goes_then names _ _ _ ts us vs (r.goes h pos_kind _ refl) (n.goes names h (in_pos r.letters) refl);
     }
 
@@ -291,51 +296,29 @@ pos_fails names ts us col f r n = record { fails = λ h. goes_fails names _ _ ts
 
 -- the first set is due
 pub some_sets_none : (ts : List Placed) → ReadsSomeSets ts [] ts
-some_sets_none ts = record { some = []; fits = All-nil IsWritableSet; values_are = refl; goes = λ names h column p. (p, refl) }
+some_sets_none ts = record { tree = []; meaning = refl; fits = All-nil IsWritableSet; goes = λ names h column p. (p, refl) }
 
 pub some_sets_fails : (ts us : List Placed) (sets : List (List ℤ)) (f : TermFault) → ReadsSomeSets ts sets us → IsOther (sign left_brace) us f → FailsSets ts f
 some_sets_fails ts us sets f r o = record { fails = λ names h column. goes_fails names _ _ ts us f (r.goes names h column) (other_fails names (sign left_brace) us f _ o (λ u ne. grind arith)) }
 
 -- one set more
 module _ (ts us vs : List Placed) (sets : List (List ℤ)) (r : ReadsSomeSets ts sets us) (c : Passes (sign left_brace) us vs) where
-  open_goes : (names : Names) (h : UnaryHole) (column : List ℕ) → Goes names (reading h (set_due column [])) ts (reading h (number_due (next_of (in_set column r.some) []))) vs
+  open_goes : (names : Names) (h : UnaryHole) (column : List ℕ) → Goes names (reading h (set_due column [])) ts (reading h (number_due (next_of (in_set column r.tree) []))) vs
   open_goes names h column = sign_behind names ts us vs _ _ _ left_brace (r.goes names h column) c refl
 
   pub some_numbers_fails : (f : TermFault) → FailsNumbers right_brace vs f → FailsSets ts f
-  some_numbers_fails f n = record { fails = λ names h column. goes_fails names _ _ ts vs f (open_goes names h column) (n.fails names h (in_set column r.some) refl) }
+  some_numbers_fails f n = record { fails = λ names h column. goes_fails names _ _ ts vs f (open_goes names h column) (n.fails names h (in_set column r.tree) refl) }
 
   -- and the sign behind it
   module _ (ws : List Placed) (set : List ℤ) (n : ReadsNumbers right_brace vs set ws) where
-    text : SetText
-    text = record { first = n.first; others = n.others }
-
-    sets_fit : All IsWritableSet (sets ++ set ∷ [])
-    sets_fit = All-append IsWritableSet sets (set ∷ []) r.fits (all_one IsWritableSet set (subst (λ (values : List ℤ). values ≢ []) n.values_are cons_not_none, n.fits))
-
-    sets_go : (names : Names) (h : UnaryHole) (column : List ℕ) → Goes names (reading h (set_due column [])) ts (reading h (with_next (sets_listed column) r.some text)) ws
-    unfolding text
-    sets_go names h column = goes_then names _ _ _ ts vs ws (open_goes names h column) (n.goes names h (in_set column r.some) refl)
-
-    sets_are : map set_value (r.some ++ text ∷ []) ≡ sets ++ set ∷ []
-    unfolding text
-    sets_are = mapped_more set_value r.some text sets set r.values_are n.values_are
+    sets_go : (names : Names) (h : UnaryHole) (column : List ℕ) → Goes names (reading h (set_due column [])) ts (reading h (with_next (sets_listed column) r.tree n.tree)) ws
+    sets_go names h column = goes_then names _ _ _ ts vs ws (open_goes names h column) (n.goes names h (in_set column r.tree) refl)
 
     pub some_sets_more : (xs : List Placed) → Passes (sign comma) ws xs → ReadsSomeSets ts (sets ++ set ∷ []) xs
-    some_sets_more xs d =
-        record {
-          some = r.some ++ text ∷ [];
-          fits = sets_fit;
-          values_are = sets_are;
-          goes = λ names h column. sign_behind names ts ws xs _ _ _ comma (sets_go names h column) d (grind arith);
-        }
+    some_sets_more xs d = one_more IsWritableSet r n.tree set n.meaning (numbers_fit n) xs (λ names h column. sign_behind names ts ws xs _ _ _ comma (sets_go names h column) d (grind (arith)))
 
     pub some_sets_all : (at : ℕ) (xs : List Placed) → ws ≡ at_place (sign right) at ∷ xs → ReadsSets ts (sets ++ set ∷ []) xs
-    some_sets_all at xs e = go r.some sets_are sets_go
-      where
-        go : (some : List SetText) → map set_value (some ++ text ∷ []) ≡ sets ++ set ∷ []
-            → ((names : Names) (h : UnaryHole) (column : List ℕ) → Goes names (reading h (set_due column [])) ts (reading h (with_next (sets_listed column) some text)) ws) → ReadsSets ts (sets ++ set ∷ []) xs
-        go [] m goes = record { first = text; others = []; fits = sets_fit; values_are = m; goes = λ names h column. sign_behind names ts ws xs _ _ _ right (goes names h column) (at, e) refl }
-        go (f ∷ os) m goes = record { first = f; others = os ++ text ∷ []; fits = sets_fit; values_are = m; goes = λ names h column. sign_behind names ts ws xs _ _ _ right (goes names h column) (at, e) refl }
+    some_sets_all at xs e = one_last IsWritableSet r n.tree set n.meaning (numbers_fit n) (λ first others. (first, others)) (λ first others. refl) xs (λ names h column. sign_behind names ts ws xs _ _ _ right (sets_go names h column) (at, e) (grind (arith)))
 
     pub some_sets_stuck : (f : TermFault) (t : Lexeme) → ws ≡ taken t → seen t.token ≢ sign right → IsOther (sign comma) ws f → FailsSets ts f
     some_sets_stuck f t e n nc =
@@ -345,9 +328,9 @@ module _ (ts us vs : List Placed) (sets : List (List ℤ)) (r : ReadsSomeSets ts
 pub layered_read : (names : Names) (ts us vs : List Placed) (col : ℕ) (sets : List (List ℤ)) → ReadsOpened names comma ts col us → ReadsSets us sets vs → ReadsBase names layered_kind ts (scored (layered col sets)) vs
 layered_read names ts us vs col sets r n =
     record {
-      tree = layered_text r.letters n.first n.others;
-      meaning = ap (λ i. scored (layered i (set_value n.first ∷ map set_value n.others))) (column_is names r.letters col r.found.place) ∙ ap (λ v. scored (layered col v)) n.values_are;
-      known = (r.found.known, (subst (λ (sets : List (List ℤ)). sets ≢ []) n.values_are cons_not_none, n.fits));
+      tree = layered_text r.letters n.tree.0 n.tree.1;
+      meaning = ap (λ i. scored (layered i (set_value n.tree.0 ∷ map set_value n.tree.1))) (column_is names r.letters col r.found.place) ∙ ap (λ v. scored (layered col v)) n.meaning;
+      known = (r.found.known, (subst (λ (sets : List (List ℤ)). sets ≢ []) n.meaning cons_not_none, n.fits));
       goes = λ h. goes_then names _ _ _ ts us vs (r.goes h layered_kind _ refl) (n.goes names h r.letters);
     }
 

@@ -1,5 +1,5 @@
 -- What is shown is a text of the grammar with the meaning of what was shown.
-use Rattle.pref_term.proofs.Common.{[], ◌≡◌, ℕ, ℤ, pos, negsuc, suc, List, ◌∷◌, map, true, false, refl, ap, ◌∙◌, arith, unwrap_or}
+use Rattle.pref_term.proofs.Common.{[], ◌≡◌, ℕ, ℤ, pos, negsuc, suc, List, ◌∷◌, map, true, false, refl, ap, arith, unwrap_or}
 use Rattle.pref_term.proofs.Common.{FitsSigned, decimal, All, All-head, All-tail, Ok, length, ◌<◌, schema_of, IsWritable, ReadsBelow, all_ascii_digits, digits_value-decimal}
 use Rattle.pref_term.proofs.Common.{NumberText, BaseText, low_text, high_text}
 use Rattle.pref_term.proofs.Common.{around_text, pos_text, PriorText, one_product, then_product, ProductText, one_factor, then_factor, UnaryText, negated, grouped, based, HeadText, best_head}
@@ -75,12 +75,6 @@ shape_meaning (ranked r) names = prior_meaning r names
 pub prior_same : (s : Shape) (names : Names) → prior_meaning (as_prior s) names ≡ shape_meaning s names
 prior_same s names = grind arith
 
-product_same : (s : Shape) (names : Names) → product_meaning (as_product s) names ≡ shape_meaning s names
-product_same s names = grind arith
-
-factor_same : (s : Shape) (names : Names) → unary_meaning (as_factor s) names ≡ shape_meaning s names
-factor_same s names = grind arith
-
 pub own_numerals : IsNumeralModel (λ ds. all_ascii_digits ds ≡ true) (digits_value 10)
 own_numerals = numerals_by_value (λ ds. all_ascii_digits ds ≡ true) tells_all_ascii_digits
 
@@ -113,7 +107,7 @@ module _ (names : Names) (schema : schema_of names ≡ Ok names) where
   meaning_same (scored b) h w = ap scored (base_same b h w)
   meaning_same (pareto p q) h w = grind (arith, meaning_same p h.0 w.0, meaning_same q h.1 w.1)
   meaning_same (prior p q) h w = grind (arith, meaning_same p h.0 w.0, meaning_same q h.1 w.1)
-  meaning_same (reverse p) h w = ap reverse (factor_same (shape_of names p) names ∙ meaning_same p h w)
+  meaning_same (reverse p) h w = grind (arith, meaning_same p h w)
 
 -- ---- the head
 

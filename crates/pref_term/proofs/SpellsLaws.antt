@@ -40,12 +40,9 @@ reads_cut s (leaf ∷ a) b n h = grind (arith, reads_cut h.0 a b n h.2)
 
 -- no reading goes past a state to which the same tokens lead by a token that cannot follow there
 reads_past : (s : State) (a b rest : List Leaf) (m n : State) (t : Token) → Reads s a m → next m t ≡ None → tokens_on b ≡ tokens_on a ++ t ∷ [] → Reads s (b ++ rest) n → ⊥
-reads_past s [] [] rest m n t h none e k = cc
-reads_past s [] (y ∷ b) rest m n t h none e k =
-    grind (arith, e, h, none, k.1)
-reads_past s (x ∷ a) [] rest m n t h none e k = cc
-reads_past s (x ∷ a) (y ∷ b) rest m n t h none e k =
-    grind (arith, e, h.1, k.1, k.2, none, reads_past h.0 a b rest m n t h.2)
+reads_past s [] (y ∷ b) rest m n t h none e k = grind (arith, e, h, none, k.1)
+reads_past s (x ∷ a) (y ∷ b) rest m n t h none e k = grind (arith, e, h.1, k.1, k.2, none, reads_past h.0 a b rest m n t h.2)
+reads_past s a b rest m n t h none e k = cc
 
 -- ---- what a reading so far knows
 
@@ -155,9 +152,8 @@ run_answers names (t ∷ ts) before s r due = go (next s t.token) refl (run_answ
 -- a good reading is run through
 pub run_reads : (names : Names) (ts rest : List Placed) (p : ℕ) (s : State) (leaves : List Leaf) (m : State) → Reads s leaves m → tokens_on leaves ≡ tokens_in ts → AllByRecursion (IsGood names) leaves → run names (ts ++ rest) p s ≡ run names rest (last_place p ts) m
 run_reads names [] rest p s [] m h e good = ap (run names rest p) h
-run_reads names [] rest p s (leaf ∷ leaves) m h e good = cc
-run_reads names (t ∷ ts) rest p s [] m h e good = cc
 run_reads names (t ∷ ts) rest p s (leaf ∷ leaves) m h e good = grind (arith, e, h.1, good.0, run_reads names ts rest t.place h.0 leaves m h.2)
+run_reads names ts rest p s leaves m h e good = cc
 
 -- a text that is spelled is read
 pub spelt_run : (names : Names) (ts : List Placed) (tree : AskText) → Spelt names ts tree → run names ts 0 start ≡ Ok tree

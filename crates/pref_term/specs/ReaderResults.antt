@@ -101,6 +101,13 @@ pub record ReadsOpened (names : Names) (behind : Sign) (ts : List Placed) (col :
   pub found : IsColumn names letters col
   pub goes : (h : UnaryHole) (k : BaseKind) (step : BaseStep) → after_column k letters behind ≡ Some (mark behind, step) → Goes names (reading h (named k)) ts (stepped h step) us
 
+-- a tree is read in front: what it means, that this fits, and where it leads
+pub record ReadsTree {T A : Type 0} (means : T → A) (Fits : A → Type 0) (Leads : T → List Placed → List Placed → Type 0) (ts : List Placed) (value : A) (us : List Placed) : Type 0 where
+  pub tree : T
+  pub meaning : means tree ≡ value
+  pub fits : Fits value
+  pub goes : Leads tree ts us
+
 -- the place of the first token
 abbrev pub first_place : List Placed → ℕ
 first_place [] = 0
@@ -114,19 +121,12 @@ pub record ReadsNumber (ts : List Placed) (value : ℤ) (us : List Placed) : Typ
   pub refused : (names : Names) (h : UnaryHole) (hole : NumberHole) → below (least_of hole) (number_value number) ≡ Some empty_range → Fails names (reading h (number_due hole)) ts (EmptyRange (first_place ts))
 
 -- some numbers of a list, behind which one more is due
-pub record ReadsSome (close : Sign) (ts : List Placed) (values : List ℤ) (us : List Placed) : Type 0 where
-  pub some : List NumberText
-  pub fits : All (FitsSigned w64) values
-  pub values_are : map number_value some ≡ values
-  pub goes : (names : Names) (h : UnaryHole) (l : NumberList) → closing l ≡ close → Goes names (reading h (number_due (next_of l []))) ts (reading h (number_due (next_of l some))) us
+abbrev pub ReadsSome : Sign → List Placed → List ℤ → List Placed → Type 0
+ReadsSome close = ReadsTree (map number_value) (All (FitsSigned w64)) (λ some ts us. (names : Names) (h : UnaryHole) (l : NumberList) → closing l ≡ close → Goes names (reading h (number_due (next_of l []))) ts (reading h (number_due (next_of l some))) us)
 
 -- the numbers of a list, and the sign that closes it
-pub record ReadsNumbers (close : Sign) (ts : List Placed) (values : List ℤ) (us : List Placed) : Type 0 where
-  pub first : NumberText
-  pub others : List NumberText
-  pub fits : All (FitsSigned w64) values
-  pub values_are : number_value first ∷ map number_value others ≡ values
-  pub goes : (names : Names) (h : UnaryHole) (l : NumberList) → closing l ≡ close → Goes names (reading h (number_due (next_of l []))) ts (stepped h (list_closed l first others)) us
+abbrev pub ReadsNumbers : Sign → List Placed → List ℤ → List Placed → Type 0
+ReadsNumbers close = ReadsTree set_value (All (FitsSigned w64)) (λ set ts us. (names : Names) (h : UnaryHole) (l : NumberList) → closing l ≡ close → Goes names (reading h (number_due (next_of l []))) ts (stepped h (list_closed l set.first set.others)) us)
 
 pub record FailsOpened (names : Names) (behind : Sign) (ts : List Placed) (f : TermFault) : Type 0 where
   pub fails : (h : UnaryHole) (k : BaseKind) → behind_column k ≡ behind → Fails names (reading h (named k)) ts f
@@ -138,19 +138,12 @@ pub record FailsNumbers (close : Sign) (ts : List Placed) (f : TermFault) : Type
   pub fails : (names : Names) (h : UnaryHole) (l : NumberList) → closing l ≡ close → Fails names (reading h (number_due (next_of l []))) ts f
 
 -- some sets of `layered`, behind which one more is due
-pub record ReadsSomeSets (ts : List Placed) (sets : List (List ℤ)) (us : List Placed) : Type 0 where
-  pub some : List SetText
-  pub fits : All IsWritableSet sets
-  pub values_are : map set_value some ≡ sets
-  pub goes : (names : Names) (h : UnaryHole) (column : List ℕ) → Goes names (reading h (set_due column [])) ts (reading h (set_due column some)) us
+abbrev pub ReadsSomeSets : List Placed → List (List ℤ) → List Placed → Type 0
+ReadsSomeSets = ReadsTree (map set_value) (All IsWritableSet) (λ some ts us. (names : Names) (h : UnaryHole) (column : List ℕ) → Goes names (reading h (set_due column [])) ts (reading h (set_due column some)) us)
 
 -- the sets of `layered`, and the parenthesis behind them
-pub record ReadsSets (ts : List Placed) (sets : List (List ℤ)) (us : List Placed) : Type 0 where
-  pub first : SetText
-  pub others : List SetText
-  pub fits : All IsWritableSet sets
-  pub values_are : set_value first ∷ map set_value others ≡ sets
-  pub goes : (names : Names) (h : UnaryHole) (column : List ℕ) → Goes names (reading h (set_due column [])) ts (completed h (based (layered_text column first others))) us
+abbrev pub ReadsSets : List Placed → List (List ℤ) → List Placed → Type 0
+ReadsSets = ReadsTree (λ sets. set_value sets.0 ∷ map set_value sets.1) (All IsWritableSet) (λ (sets : SetText × List SetText) ts us. (names : Names) (h : UnaryHole) (column : List ℕ) → Goes names (reading h (set_due column [])) ts (completed h (based (layered_text column sets.0 sets.1))) us)
 
 pub record FailsSets (ts : List Placed) (f : TermFault) : Type 0 where
   pub fails : (names : Names) (h : UnaryHole) (column : List ℕ) → Fails names (reading h (set_due column [])) ts f
@@ -242,28 +235,19 @@ pub record FailsCount (ts : List Placed) (f : TermFault) : Type 0 where
   pub fails : (names : Names) (k : CountKind) → Fails names (count_due k) ts f
 
 -- some columns of a group, behind which one more is due
-pub record ReadsSomeColumns (names : Names) (ts : List Placed) (columns : List ℕ) (us : List Placed) : Type 0 where
-  pub some : List (List ℕ)
-  pub meaning : map (column_at names) some ≡ columns
-  pub known : All (IsKnown names) columns
-  pub goes : (head : HeadText) (r : PriorText) → Goes names (group_due head r []) ts (group_due head r some) us
+abbrev pub ReadsSomeColumns : Names → List Placed → List ℕ → List Placed → Type 0
+ReadsSomeColumns names = ReadsTree (map (column_at names)) (All (IsKnown names)) (λ some ts us. (head : HeadText) (r : PriorText) → Goes names (group_due head r []) ts (group_due head r some) us)
 
 -- the columns of a group, and the end
-pub record ReadsColumns (names : Names) (ts : List Placed) (columns : List ℕ) : Type 0 where
-  pub some : List (List ℕ)
-  pub meaning : map (column_at names) some ≡ columns
-  pub known : All (IsKnown names) columns
-  pub goes : (head : HeadText) (r : PriorText) (p : ℕ) → run names ts p (group_due head r []) ≡ Ok (rated head r some)
+abbrev pub ReadsColumns : Names → List Placed → List ℕ → Type 0
+ReadsColumns names ts columns = ReadsTree (map (column_at names)) (All (IsKnown names)) (λ some ts _. (head : HeadText) (r : PriorText) (p : ℕ) → run names ts p (group_due head r []) ≡ Ok (rated head r some)) ts columns []
 
 pub record FailsColumns (names : Names) (ts : List Placed) (f : TermFault) : Type 0 where
   pub fails : (head : HeadText) (r : PriorText) → Fails names (group_due head r []) ts f
 
 -- the group of a question, which may have no column, and the end
-pub record ReadsGrouping (names : Names) (ts : List Placed) (columns : List ℕ) : Type 0 where
-  pub some : List (List ℕ)
-  pub meaning : map (column_at names) some ≡ columns
-  pub known : All (IsKnown names) columns
-  pub goes : (head : HeadText) (r : PriorText) (p : ℕ) → run names ts p (ranked (whole head) r) ≡ Ok (rated head r some)
+abbrev pub ReadsGrouping : Names → List Placed → List ℕ → Type 0
+ReadsGrouping names ts columns = ReadsTree (map (column_at names)) (All (IsKnown names)) (λ some ts _. (head : HeadText) (r : PriorText) (p : ℕ) → run names ts p (ranked (whole head) r) ≡ Ok (rated head r some)) ts columns []
 
 pub record FailsGrouping (names : Names) (ts : List Placed) (f : TermFault) : Type 0 where
   pub fails : NotNext (sign star) ts → NotNext (sign ampersand) ts → (head : HeadText) (r : PriorText) → Fails names (ranked (whole head) r) ts f

@@ -69,7 +69,7 @@ impl Ask {
     }
 
     /// A question of these parts. Of equal rows one is kept only where the best are wanted.
-    #[tactic(auto, using(crate::proofs::BuiltLemmas::made, crate::proofs::BuiltLemmas::no_clause, crate::proofs::BuiltLemmas::refused_exit, crate::proofs::BuiltLemmas::refused_for))]
+    #[tactic(auto, using(crate::proofs::BuiltLemmas::made, crate::proofs::BuiltLemmas::no_clause, crate::proofs::BuiltLemmas::refused_for, crate::proofs::LedLemmas::fault_exit))]
     fn of_parts(
         alloc: Global,
         term: Term,

@@ -113,7 +113,6 @@ fn contains(chains: &[Chain], chain: &Chain) -> bool
 }
 
 /// Puts those of some chains behind others that are not there already.
-#[tactic(auto, using(crate::proofs::LeadingLaws::one_added, crate::proofs::LeadingLaws::one_held))]
 fn push_others(chains: &mut Vec<Chain>, others: Vec<Chain>) -> Result<(), AllocError>
     ensures { OnOk result (AreBoth chains.old.items others.items chains.new.items) }
 {

@@ -189,7 +189,6 @@ pub fn in_same_group(columns: &[usize], a: &Row, b: &Row) -> bool
 ///
 /// One loop, which stops at the first key after which neither row can be better. Takes no memory.
 #[inline(never)]
-#[tactic(auto, using(crate::proofs::KeyLaws::decided))]
 pub(crate) fn compare_by_keys(keys: &[Key], a: &Row, b: &Row) -> Relation
     requires columns { All (λ key. key.col < 16) keys.now }
     requires numbers { All (λ key. is_number key.score ≡ true) keys.now }
@@ -212,7 +211,6 @@ pub(crate) fn compare_by_keys(keys: &[Key], a: &Row, b: &Row) -> Relation
 ///
 /// One loop, which stops at the first key by which the second row is better. Takes no memory.
 #[inline(never)]
-#[tactic(auto, using(crate::proofs::KeyLaws::spoiled))]
 pub(crate) fn is_better_by_keys(keys: &[Key], a: &Row, b: &Row) -> bool
     requires columns { All (λ key. key.col < 16) keys.now }
     requires numbers { All (λ key. is_number key.score ≡ true) keys.now }

@@ -37,7 +37,6 @@ fn count<'a>(cursor: Cursor<'a>) -> Parsed<'a, u32>
 }
 
 /// Takes the columns of a group and the end behind them.
-#[tactic(auto, using(crate::proofs::AskLemmas::columns_none, crate::proofs::AskLemmas::columns_more))]
 fn group_columns(
     alloc: Global,
     schema: &Schema,

@@ -1,4 +1,4 @@
-use Rattle.pref_term.proofs.Common.{◌<◌, ap, false, ◌∙◌, subst, All, IfOk-weaker, arith, List, leading, Question, Key}
+use Rattle.pref_term.proofs.Common.{ap, false, ◌∙◌, subst, All, IfOk-weaker, arith, List, leading, Question, Key}
 use Rattle.pref_term.specs.Signatures.{IsBy}
 use Rattle.pref_term.proofs.KeyLaws.{leading_in_row}
 use Rattle.pref_term.proofs.SignatureLaws.{suiting_cuts}

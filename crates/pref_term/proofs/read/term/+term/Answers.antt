@@ -1,4 +1,4 @@
-use Rattle.pref_term.proofs.Common.{List, arith, ap, ◌∙◌, length, Placed}
+use Rattle.pref_term.proofs.Common.{List, arith, ap, sym, subst, ◌∙◌, length, Placed, sign, star, ampersand, NotNext}
 use Rattle.pref_term.proofs.LedLemmas.{fault_exit}
 use Rattle.pref_term.proofs.CycleLemmas.{more_factors, more_factors_fail, more_products, more_products_fail, reads_group, reads_unary}
 use Rattle.pref_term.proofs.read.term.+term.Goals as goal
@@ -29,6 +29,14 @@ product-loop-taken-preserved t c =
       so_far = rw (c.in_ok-term-2.ensures {u = tt}) (more_factors _ _ _ _ _ _ c.loop-taken.invariant.so_far c.take-taken.result.at e _ _ c.in_ok-factor.ensures.parsed);
       shorter = omega (arith, c.in_ok-factor.ensures.shorter, c.loop-taken.invariant.shorter, passed);
     }
+
+-- for an edit that must fail: an answer fails at once, a search twice at its limits
+pub product-returns-then-not-is-clause-parsed : goal.product-returns-then-not-is-clause-parsed
+product-returns-then-not-is-clause-parsed t c = record { factors = c.loop-taken.invariant.so_far; stops = subst (NotNext (sign star)) (sym c.take-taken.ensures) c.if-not-is.ensures.no }
+
+pub prior-returns-then-not-is-clause-parsed : goal.prior-returns-then-not-is-clause-parsed
+prior-returns-then-not-is-clause-parsed t c =
+    record { products = c.loop-taken.invariant.so_far; stops = c.loop-taken.invariant.stops; stops_too = subst (NotNext (sign ampersand)) (sym c.take-taken.ensures) c.if-not-is.ensures.no }
 
 pub group-returns-in_err-inside-clause-parsed : goal.group-returns-in_err-inside-clause-parsed
 group-returns-in_err-inside-clause-parsed t c = grind (arith, reads_group)
