@@ -25,7 +25,7 @@ pub use Rattle.std.specs.Ordering.{int_eq, is_lt, nat_cmp, ordering_then}
 pub use Rattle.std.specs.Prelude.{All, IfSome, OnOk, int_lt, min, slice_set}
 pub use Rattle.pref_sky.specs.Answers.{answer_of, at_least, count_before, count_upto, selected}
 pub use Rattle.pref_sky.specs.Best.{best, is_beaten, rest, without_best}
-pub use Rattle.pref_sky.specs.Levels.{HaveDifferentIds, at_level, entry_of, entry_order, held_after, in_order_of_id, levels, put_by_id}
+pub use Rattle.pref_sky.specs.Levels.{HaveDifferentIds, at_level, entry_of, entry_order, held_after, held_of_parts, in_order_of_id, levels, put_by_id}
 pub use Rattle.pref_sky.specs.Members.{Among}
 pub use Rattle.pref_sky.specs.Passes.{IsClear, IsThere, Passing}
 pub use Rattle.pref_sky.specs.declared.entry.Entry.{Entry}
@@ -41,7 +41,6 @@ pub use Rattle.pref_term.specs.Signatures.{Suit, is_within, signature}
 pub use Rattle.pref_term.specs.declared.ask.Mode.TheVariants.{AtLeast, Best, TopLevel}
 pub use denote.Param.Members.{Mut}
 pub use Rattle.pref_sky.specs.Chains.{IsChain, IsInOrder, are_level, better_in, by_row, comes_first, earlier_in, in_turn}
-pub use Rattle.pref_sky.specs.OwnOrders.{AreInOrder, AreLeveled, AreLowest, AreSorted, HoldsUpper, comes_after, comes_before, count_above, is_below, level_of, own_levels, own_order}
+pub use Rattle.pref_sky.specs.OwnOrders.{AreInOrder, AreLeveled, AreLowest, AreSorted, comes_after, comes_before, count_above, is_below, level_of, own_levels, own_order}
 pub use Rattle.pref_sky.specs.Items.{entry_at}
-pub use Rattle.pref_sky.specs.Partials.{KeepsAllBut}
 pub use Rattle.pref_sky.specs.declared.own_order.OwnOrder.{OwnOrder}

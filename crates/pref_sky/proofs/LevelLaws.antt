@@ -1,8 +1,7 @@
 -- Laws of the levels, for the crates above: no entries have no levels, the order in which entries stand does not matter, what is held has different ids, and of twins the first is best.
 use Rattle.pref_sky.proofs.Common.{◌≡◌, List, arith, Entry, entry_order, Among, ℕ, zero, suc, Bool, [], ◌∷◌, ◌++◌, map, append_assoc, refl, sym, ◌∙◌, ap, append-nil, ◌==◌}
-use Rattle.pref_sky.proofs.Common.{flat_map, IsStrictOrder, Question, Ranked, order_of, order_of_is_row_order, HaveDifferentIds, entry_of, held_after, in_order_of_id}
+use Rattle.pref_sky.proofs.Common.{flat_map, IsStrictOrder, Question, Ranked, order_of, order_of_is_row_order, HaveDifferentIds, entry_of, held_after, held_of_parts, in_order_of_id}
 use Rattle.pref_sky.proofs.Common.{levels, cut_of, in_same_group, answer_of}
-use Rattle.pref_sky.specs.Parts.{held_of_parts}
 use Rattle.pref_sky.proofs.ListLaws.{SameMembers, in_left, in_right, count_append}
 use Rattle.pref_sky.proofs.IdOrder.{in_order_moves, same_in_order}
 use Rattle.pref_sky.proofs.KeptLaws.{keeps_all, keeps_joined, keeps_moved, keeps_still, kept_differ}
@@ -15,6 +14,13 @@ pub levels_of_none : (over : Entry → Entry → Bool) (n : ℕ) → [] ≡ leve
 levels_of_none over zero = refl
 levels_of_none over (suc n) = grind (arith, levels_of_none over n, best_of_rest_is over [] n)
 
+-- what is held of entries has different ids, and so it has beside new ones
+pub levels_differ : (over : Entry → Entry → Bool) (all : List Entry) (n : ℕ) → HaveDifferentIds all → HaveDifferentIds (map entry_of (levels over all n))
+levels_differ over all n = kept_differ _ _ (levels_keep over all n)
+
+pub held_differ : (over : Entry → Entry → Bool) (before new : List Entry) (n : ℕ) → HaveDifferentIds (before ++ new) → HaveDifferentIds (map entry_of (levels over before n) ++ new)
+held_differ over before new n = kept_differ _ _ (keeps_joined _ _ _ _ (levels_keep over before n) (keeps_all new))
+
 -- an answer is made of the levels up to the cut
 answer_by_cut : (ask : Question) (xs ys : List Entry) → levels (entry_order (order_of ask)) xs (cut_of ask.mode) ≡ levels (entry_order (order_of ask)) ys (cut_of ask.mode) → answer_of ask xs ≡ answer_of ask ys
 answer_by_cut ask xs ys same =
@@ -23,16 +29,12 @@ answer_by_cut ask xs ys same =
 
 -- the order in which the entries stand does not matter: those of each list have the same levels in order of id
 levels_in_order : (over : Entry → Entry → Bool) → IsStrictOrder over → (all : List Entry) → HaveDifferentIds all → (n : ℕ) → levels over (in_order_of_id all) n ≡ levels over all n
-levels_in_order over strict all different n = levels_kept over strict _ all n (keeps_moved _ _ (keeps_all all) _ (in_order_moves all)) (kept_differ _ _ (levels_keep over all n) different)
+levels_in_order over strict all different n = levels_kept over strict _ all n (keeps_moved _ _ (keeps_all all) _ (in_order_moves all)) (levels_differ over all n different)
 
 pub answer_of_same : (ask : Question) (xs ys : List Entry) → HaveDifferentIds xs → HaveDifferentIds ys → SameMembers xs ys → answer_of ask xs ≡ answer_of ask ys
 answer_of_same ask xs ys dx dy same =
     let in_order = levels_in_order (entry_order (order_of ask)) (entry_order_is_strict (order_of ask) (order_of_is_row_order ask)) in
     answer_by_cut ask xs ys (grind (arith, in_order xs dx (cut_of ask.mode), in_order ys dy (cut_of ask.mode), same_in_order xs ys dx dy same))
-
--- what is held of entries has different ids
-pub held_differ : (over : Entry → Entry → Bool) (before new : List Entry) (n : ℕ) → HaveDifferentIds (before ++ new) → HaveDifferentIds (map entry_of (levels over before n) ++ new)
-held_differ over before new n = kept_differ _ _ (keeps_joined _ _ _ _ (levels_keep over before n) (keeps_all new))
 
 -- the first ones of a list have different ids where all have
 pub first_differ : (xs ys : List Entry) → HaveDifferentIds (xs ++ ys) → HaveDifferentIds xs
@@ -75,7 +77,7 @@ held_of_parts_differ over cut parts = kept_differ _ _ (parts_keep over cut (flat
 -- the levels of what parts hold are those of all
 pub levels_of_held : (over : Entry → Entry → Bool) → IsStrictOrder over → (cut : ℕ) (parts : List (List Entry)) → HaveDifferentIds (flat_map (λ part. part) parts)
     → levels over (held_of_parts over cut parts) cut ≡ levels over (flat_map (λ part. part) parts) cut
-levels_of_held over strict cut parts different = let all = flat_map (λ (l : List Entry). l) parts in levels_kept over strict _ all cut (parts_keep over cut all parts (λ x m. m)) (kept_differ _ _ (levels_keep over all cut) different)
+levels_of_held over strict cut parts different = let all = flat_map (λ (l : List Entry). l) parts in levels_kept over strict _ all cut (parts_keep over cut all parts (λ x m. m)) (levels_differ over all cut different)
 
 -- and so is the answer
 pub answer_of_held : (ask : Question) (parts : List (List Entry)) → HaveDifferentIds (flat_map (λ part. part) parts) → answer_of ask (held_of_parts (entry_order (order_of ask)) (cut_of ask.mode) parts) ≡ answer_of ask (flat_map (λ part. part) parts)

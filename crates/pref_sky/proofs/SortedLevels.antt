@@ -1,8 +1,8 @@
 -- Entries that are below the levels of a list may be left out of it, and may be there twice: the levels are the same. So levels may be merged, and of new entries those alone be kept that are not below those before.
-use Rattle.pref_sky.proofs.Common.{◌≡◌, ◌==◌, ◌<◌, ◌≤◌, Bool, true, not, ◌&&◌, ℕ, zero, suc, List, ◌++◌, refl, sym, ◌∙◌, ap, subst, arith, append_assoc, map}
-use Rattle.pref_sky.proofs.Common.{IsStrictOrder, Entry, HaveDifferentIds, KeepsAllBut, HoldsUpper, OwnOrder, own_levels, own_order, best, comes_after, entry_of, in_order_of_id, levels, rest}
+use Rattle.pref_sky.proofs.Common.{◌≡◌, ◌==◌, ◌<◌, ◌≤◌, Bool, true, not, ◌&&◌, ℕ, zero, suc, List, ◌∷◌, ◌++◌, refl, arith, map}
+use Rattle.pref_sky.proofs.Common.{IsStrictOrder, Among, Entry, HaveDifferentIds, OwnOrder, best, comes_after, entry_of, in_order_of_id, is_below, levels, own_levels, own_order, rest}
 use Rattle.pref_sky.proofs.IdOrder.{different_by_count, same_in_order}
-use Rattle.pref_sky.proofs.KeptLaws.{keeps_all, keeps_filtered, keeps_joined, keeps_moved, keeps_still}
+use Rattle.pref_sky.proofs.KeptLaws.{KeepsAllBut, drops_first, keeps_all, keeps_filtered, keeps_joined, keeps_moved, keeps_still}
 use Rattle.pref_sky.proofs.ListLaws.{count_append, count_filtered, count_within, from_filter, in_filter, in_left}
 use Rattle.pref_sky.proofs.Merges.{best_of_rest_is, comes_after_among_more, early_stays, is_at, same_chains}
 use Rattle.pref_sky.proofs.OwnOrders.{own_is_strict}
@@ -55,19 +55,19 @@ module _ (over : Entry → Entry → Bool) (strict : IsStrictOrder over) (cut : 
   pub merge : levels over (map entry_of (levels over held cut) ++ entries) cut ≡ levels over (held ++ entries) cut
   merge = levels_kept over strict _ (held ++ entries) cut (keeps_joined _ _ _ _ (keeps_still _ _ (levels_keep over held cut) still_below) (keeps_all entries)) merged_differ
 
-  -- those of them that are kept
-  pub merge_kept : (kept : List Entry) → KeepsUpper over cut held entries kept → levels over (held ++ kept) cut ≡ levels over (held ++ entries) cut
-  merge_kept kept keeps = levels_kept over strict _ (held ++ entries) cut (keeps_joined _ _ _ _ (keeps_all held) (keeps_still _ _ keeps still_below)) merged_differ
+-- and of sorted and recent entries
+module _ (order : OwnOrder) (sorted recent : List Entry) where
+  -- one that comes to them may be left out where it is below the levels of the sorted ones
+  pub left_out : (others : List Entry) (e : Entry) → HaveDifferentIds (map entry_of (own_levels order ((sorted ++ recent) ++ e ∷ others))) → is_below order sorted e ≡ true
+      → own_levels order ((sorted ++ recent) ++ others) ≡ own_levels order ((sorted ++ recent) ++ e ∷ others)
+  left_out others e different low =
+      let within : (x : Entry) → Among x sorted → Among x ((sorted ++ recent) ++ e ∷ others) = λ x m. in_left (sorted ++ recent) (e ∷ others) x (in_left sorted recent x m) in
+      let still = comes_after_among_more (own_order order) sorted ((sorted ++ recent) ++ e ∷ others) within order.cut e low in
+      levels_kept (own_order order) (own_is_strict order) _ _ order.cut (keeps_joined _ _ _ _ (keeps_all (sorted ++ recent)) (drops_first e others still)) different
 
--- and of sorted and recent entries, with what is kept of new ones
-module _ (order : OwnOrder) (sorted recent entries : List Entry) (different : HaveDifferentIds (map entry_of (own_levels order (sorted ++ recent)) ++ entries)) (kept : List Entry) (upper : HoldsUpper order sorted entries kept) where
-  all_levels : own_levels order (sorted ++ (recent ++ kept)) ≡ own_levels order ((sorted ++ recent) ++ entries)
-  all_levels =
-      let still = keeps_still _ _ upper (comes_after_among_more (own_order order) sorted (sorted ++ recent) (in_left sorted recent) order.cut) in
-      ap (own_levels order) (sym (append_assoc sorted recent kept)) ∙ merge_kept (own_order order) (own_is_strict order) order.cut (sorted ++ recent) entries different kept still
+  module _ (entries : List Entry) (different : HaveDifferentIds (map entry_of (own_levels order (sorted ++ recent)) ++ entries)) where
+    pub all_differ : HaveDifferentIds (map entry_of (own_levels order ((sorted ++ recent) ++ entries)))
+    all_differ = merged_differ (own_order order) (own_is_strict order) order.cut (sorted ++ recent) entries different
 
-  pub upper_differ : HaveDifferentIds (map entry_of (own_levels order (sorted ++ (recent ++ kept))))
-  upper_differ = subst (λ l. HaveDifferentIds (map entry_of l)) (sym all_levels) (merged_differ (own_order order) (own_is_strict order) order.cut (sorted ++ recent) entries different)
-
-  pub upper_levels : (before : List Entry) → own_levels order (sorted ++ recent) ≡ own_levels order before → own_levels order (sorted ++ (recent ++ kept)) ≡ own_levels order (before ++ entries)
-  upper_levels before is = grind (arith, all_levels, merge (own_order order) (own_is_strict order) order.cut (sorted ++ recent) entries different, merge (own_order order) (own_is_strict order) order.cut before entries)
+    pub own_merged : (before : List Entry) → HaveDifferentIds (before ++ entries) → own_levels order (sorted ++ recent) ≡ own_levels order before → own_levels order ((sorted ++ recent) ++ entries) ≡ own_levels order (before ++ entries)
+    own_merged before all is = grind (arith, merge (own_order order) (own_is_strict order) order.cut (sorted ++ recent) entries different, merge (own_order order) (own_is_strict order) order.cut before entries)

@@ -1,7 +1,6 @@
 pub mod Members
 pub mod Best
 pub mod Levels
-pub mod Parts
 pub mod Grouped
 pub mod Twins
 pub mod Windows
@@ -16,6 +15,5 @@ pub mod Ranking
 pub mod Steps
 pub mod ChosenChains
 pub mod Leads
-pub mod Partials
 pub mod PartialForms
 pub mod NumberedRows

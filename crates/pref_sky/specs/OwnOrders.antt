@@ -8,7 +8,6 @@ use Rattle.pref_term.specs.Extension.{ask_keys}
 use Rattle.pref_sky.specs.Chains.{IsInOrder, better_in, by_row, in_turn}
 use Rattle.pref_sky.specs.Items.{entry_at}
 use Rattle.pref_sky.specs.Levels.{entry_order, levels}
-use Rattle.pref_sky.specs.Partials.{KeepsAllBut}
 use Rattle.pref_sky.specs.declared.entry.Entry.{Entry}
 use Rattle.pref_sky.specs.declared.entry.Ranked.{Ranked}
 use Rattle.pref_sky.specs.declared.item.Item.{Item}
@@ -56,10 +55,6 @@ pub record AreSorted (order : OwnOrder) (entries sorted : List Entry) : Type 0 w
 -- what the entries of these items of a list are over is below its levels
 abbrev pub AreLowest : OwnOrder → List Entry → List Item → Type 0
 AreLowest order entries items = All (λ (item : Item). (item.place < length entries) × ((e : Entry) → own_order order (entry_at entries item.place) e ≡ true → is_below order entries e ≡ true)) items
-
--- some of these entries, with all that are not below the levels of a list
-abbrev pub HoldsUpper : OwnOrder → List Entry → List Entry → List Entry → Type 0
-HoldsUpper order sorted = KeepsAllBut (λ e. is_below order sorted e ≡ true)
 
 -- the entries of a list in some order, and their levels
 pub record AreLeveled (order : OwnOrder) (held all : List Entry) (levels : List ℕ) : Type 0 where

@@ -4,9 +4,8 @@ ghost use Rattle.std.specs.Prelude.{◌≡◌, ◌<◌, ◌++◌, [], ℕ, Bool,
 ghost use Rattle.std.specs.List.{flat_map};
 ghost use Rattle.pref_sky.specs.Answers.{answer_of, at_least, count_upto};
 ghost use Rattle.pref_sky.specs.Best.{best};
-ghost use Rattle.pref_sky.specs.Levels.{HaveDifferentIds, entry_of, entry_order, held_after, levels};
+ghost use Rattle.pref_sky.specs.Levels.{HaveDifferentIds, entry_of, entry_order, held_after, held_of_parts, levels};
 ghost use Rattle.pref_sky.specs.Members.{Among, SameMembers};
-ghost use Rattle.pref_sky.specs.Parts.{held_of_parts};
 ghost use Rattle.pref_sky.specs.Twins.{IsFirstOfTwins};
 ghost use Rattle.pref_sky.specs.declared.entry.Entry.{Entry};
 ghost use Rattle.pref_sky.specs.declared.entry.Ranked.{Ranked};

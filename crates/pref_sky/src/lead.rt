@@ -1,12 +1,12 @@
 //! What leads the order of entries in a sweep: up to three chains, whose product decides wherever it sees a difference.
 
-ghost use Rattle.std.specs.Prelude.{◌≡◌, ◌≤◌, ◌&&◌, ◌⊎◌, [], suc, true, false, All, IfOk, get_or, length, map};
+ghost use Rattle.std.specs.Prelude.{◌≡◌, ◌<◌, ◌≤◌, ◌-◌, ◌&&◌, ◌⊎◌, [], suc, true, false, All, IfOk, get_or, length, map};
 ghost use Rattle.pref_term.specs.Chains.{AreInRow, by_chain};
-ghost use Rattle.pref_term.specs.Extension.{ask_keys};
 ghost use Rattle.pref_term.specs.Order.{StandAlike, is_same};
 ghost use Rattle.pref_sky.specs.Chains.{better_in, earlier_in, in_turn};
 ghost use Rattle.pref_sky.specs.ChosenChains.{SayTheSame, tells_apart};
 ghost use Rattle.pref_sky.specs.Held.{AreHeld};
+ghost use Rattle.pref_sky.specs.Items.{entry_at};
 ghost use Rattle.pref_sky.specs.OwnOrders.{AreInOrder, own_order};
 ghost use Rattle.pref_sky.specs.Sweep.{are_level_in};
 
@@ -145,17 +145,21 @@ impl<'a> Lead<'a> {
             && self.compare(2, a, b).is_same()
     }
 
-    /// How an entry stands to the one before it. Cost: for entries that are alike one comparison of their rows.
-    #[tactic(auto, using(crate::proofs::LeadLaws::level_is, crate::proofs::LeadLaws::alike_entries))]
-    pub(crate) fn standing(&self, order: &OwnOrder, before: &Entry, entry: &Entry) -> Standing
-        // The chains see no difference that the question's keys do not.
-        requires { is_same (by_chain (ask_keys order.now.ask) before.now.row entry.now.row) ≡ true
-            → are_level_in (first_of order.now self.now) (second_of order.now self.now) (third_of order.now self.now) before.now entry.now ≡ true }
-        ensures alike { result ≡ Standing.Alike → StandAlike (own_order order.now) before.now entry.now }
-        ensures same { (result ≡ Standing.Apart → ⊥) → are_level_in (first_of order.now self.now) (second_of order.now self.now) (third_of order.now self.now) before.now entry.now ≡ true }
-        ensures apart { result ≡ Standing.Apart → are_level_in (first_of order.now self.now) (second_of order.now self.now) (third_of order.now self.now) before.now entry.now ≡ false }
+    /// How the entry at a place stands to the one before it; the first one is apart. Cost: for entries that are alike one comparison of their
+    /// rows.
+    pub(crate) fn standing(&self, order: &OwnOrder, entries: &[Entry], place: usize) -> Standing
+        requires inside { place < length entries.now }
+        requires swept { LeadsSweep order.now self.now entries.now }
+        ensures alike { result ≡ Standing.Alike → StandAlike (own_order order.now) (entry_at entries.now (place - 1)) (entry_at entries.now place) }
+        ensures same { (result ≡ Standing.Apart → ⊥) → (0 < place) × (are_level_in (first_of order.now self.now) (second_of order.now self.now) (third_of order.now self.now)
+            (entry_at entries.now (place - 1)) (entry_at entries.now place) ≡ true) }
+        ensures apart { result ≡ Standing.Apart → 0 < place → are_level_in (first_of order.now self.now) (second_of order.now self.now) (third_of order.now self.now)
+            (entry_at entries.now (place - 1)) (entry_at entries.now place) ≡ false }
     {
-        let (a, b) = (&before.row, &entry.row);
+        if place == 0 {
+            return Standing::Apart;
+        }
+        let (a, b) = (&entries[place - 1].row, &entries[place].row);
         if !order.ask.distinct() && order.ask.compare_in_order(a, b).is_same() {
             return Standing::Alike;
         }

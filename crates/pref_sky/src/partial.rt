@@ -61,7 +61,7 @@ impl Model for Partial {
 }
 
 /// Entries as they are held: in the order of a question's keys where the order is a question's, and else with their levels.
-#[tactic(auto, using(crate::proofs::OwnOrders::own_levels_are))]
+#[tactic(auto, using(crate::proofs::OwnOrders::own_levels_are, crate::proofs::LevelLaws::levels_differ))]
 fn hold<D: Dominance>(
     alloc: Global,
     dominance: &D,

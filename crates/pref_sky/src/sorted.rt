@@ -2,7 +2,7 @@
 //! to drop those below the cut.
 
 ghost use Rattle.std.specs.Prelude.{◌≡◌, ◌<◌, ◌++◌, true, List, All, get_or, length, map, IfOk, IfSome, OnErr, OnOk};
-ghost use Rattle.pref_sky.specs.OwnOrders.{AreLeveled, AreLowest, HoldsUpper, is_below, level_of, own_levels, own_order};
+ghost use Rattle.pref_sky.specs.OwnOrders.{AreLeveled, AreLowest, is_below, level_of, own_levels, own_order};
 ghost use Rattle.pref_sky.specs.Levels.{HaveDifferentIds, entry_of};
 ghost use Rattle.pref_sky.specs.declared.entry.Entry.{Entry};
 ghost use Rattle.pref_sky.specs.declared.item.Item.{Item};
@@ -182,8 +182,9 @@ impl Pruned {
     /// was seen to be. Where it is out of memory, some of them.
     fn keep_others(&mut self, recent: &mut Vec<Entry>, entries: &[Entry]) -> Result<(), AllocError>
         ensures same { (self.new.order ≡ self.old.order) × (self.new.entries ≡ self.old.entries) }
-        ensures kept { (kept : List Entry) × (recent.new.items ≡ recent.old.items ++ kept)
-            × OnOk result (HoldsUpper self.old.order self.old.entries.items entries.now kept) }
+        ensures behind { (kept : List Entry) × (recent.new.items ≡ recent.old.items ++ kept) }
+        ensures levels { let own = own_levels self.old.order in let all = (self.old.entries.items ++ recent.old.items) ++ entries.now in
+            HaveDifferentIds (map entry_of (own all)) → OnOk result (own (self.old.entries.items ++ recent.new.items) ≡ own all) }
     {
         let looks = self.lately.looks.are_worthwhile();
         let held = recent.len();

@@ -1,12 +1,11 @@
 //! The levels of entries in order, by one pass: the level of an entry is the first of which no entry before it dominates it.
 
-ghost use Rattle.std.specs.Prelude.{◌≡◌, ◌<◌, ◌≤◌, ◌+◌, ◌-◌, ℕ, suc, cond, nat_lt, Bool, List, true, false, IfOk, OnOk, length, map};
-ghost use Rattle.pref_term.specs.Order.{StandAlike};
+ghost use Rattle.std.specs.Prelude.{◌≡◌, ◌<◌, ◌≤◌, ◌+◌, ◌-◌, ℕ, suc, cond, nat_lt, Bool, List, IfOk, OnOk, length, map};
 ghost use Rattle.pref_sky.specs.OwnOrders.{level_of, own_order};
 ghost use Rattle.pref_sky.specs.Items.{entry_at};
-ghost use Rattle.pref_sky.specs.Leads.{HasPassed, IsSweptTo, LeadsSweep, first_of, second_of, third_of};
+ghost use Rattle.pref_sky.specs.Leads.{HasPassed, IsSweptTo, LeadsSweep};
 ghost use Rattle.pref_sky.specs.declared.entry.Entry.{Entry};
-ghost use Rattle.pref_sky.specs.Sweep.{AreAbove, HasSwept, are_level_in};
+ghost use Rattle.pref_sky.specs.Sweep.{AreAbove, HasSwept};
 
 use crate::entry::Entry;
 use crate::lead::Lead;
@@ -118,7 +117,7 @@ impl Sweep {
         requires passed { HasPassed order.now lead.now entries.now place self.old }
         ensures { OnOk result (HasPassed order.now lead.now entries.now (place + 1) self.new) }
     {
-        match standing_at(order, lead, entries, place) {
+        match lead.standing(order, entries, place) {
             Standing::Alike => return Ok(()),
             Standing::InClass => {}
             Standing::Apart => self.class = place,
@@ -147,22 +146,6 @@ fn next_between(low: usize, high: usize, step: usize) -> usize
     ensures to { result < high }
 {
     low + step.min((high - low) / 2)
-}
-
-/// How the entry at a place stands to the one before it. The first one is apart.
-fn standing_at(order: &OwnOrder, lead: &Lead, entries: &[Entry], place: usize) -> Standing
-    requires inside { place < length entries.now }
-    requires swept { LeadsSweep order.now lead.now entries.now }
-    ensures alike { result ≡ Standing.Alike → StandAlike (own_order order.now) (entry_at entries.now (place - 1)) (entry_at entries.now place) }
-    ensures same { (result ≡ Standing.Apart → ⊥) → (0 < place) × (are_level_in (first_of order.now lead.now) (second_of order.now lead.now) (third_of order.now lead.now)
-        (entry_at entries.now (place - 1)) (entry_at entries.now place) ≡ true) }
-    ensures apart { result ≡ Standing.Apart → 0 < place → are_level_in (first_of order.now lead.now) (second_of order.now lead.now) (third_of order.now lead.now)
-        (entry_at entries.now (place - 1)) (entry_at entries.now place) ≡ false }
-{
-    if place == 0 {
-        return Standing::Apart;
-    }
-    lead.standing(order, &entries[place - 1], &entries[place])
 }
 
 /// The level of each of these entries, which are in order; 0 of one that is below the cut.

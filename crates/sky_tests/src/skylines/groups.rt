@@ -66,37 +66,74 @@ fn check_added_by_two<D: Dominance, E: Dominance>(
     check_places(rt, alloc, "held", &held, places)
 }
 
-/// Of six rows the first three are added by the first order, by which all three are best, and then the others by the second one.
-fn check_orders(
-    rt: &impl Abort,
-    alloc: Global,
-    first: &[u8],
-    second: &[u8],
-    rows: &[(i64, i64)],
-    places: &[(u32, u64)],
-) -> Result<(), Fail> {
-    let entries = numbered(alloc, rows)?;
-    let first = ask_of(alloc, first)?;
-    let second = ask_of(alloc, second)?;
-    let mut partial = Partial::empty();
-    check_added_by_two(rt, alloc, &first, &second, &mut partial, &entries, places)
+/// Of six rows the first three are added by the first order, by which all three are best, and then the others by the second one. What is
+/// held then has these levels and ids.
+struct Orders {
+    first: &'static [u8],
+    second: &'static [u8],
+    rows: &'static [(i64, i64)],
+    places: &'static [(u32, u64)],
 }
 
+fn check_orders(rt: &impl Abort, alloc: Global, case: &Orders) -> Result<(), Fail> {
+    let entries = numbered(alloc, case.rows)?;
+    let first = ask_of(alloc, case.first)?;
+    let second = ask_of(alloc, case.second)?;
+    let mut partial = Partial::empty();
+    check_added_by_two(
+        rt,
+        alloc,
+        &first,
+        &second,
+        &mut partial,
+        &entries,
+        case.places,
+    )
+}
+
+const TIES: [(i64, i64); 6] = [(5, 1), (5, 2), (5, 3), (4, 9), (5, 4), (6, 1)];
+
+const PAIRED_BY_X: [(i64, i64); 6] = [(5, 1), (6, 2), (7, 3), (5, 0), (6, 9), (8, 8)];
+
 /// The first three rows are best by either order.
+static ORDERS: [Orders; 5] = [
+    Orders {
+        first: b"best low(x) by y",
+        second: b"best low(x)",
+        rows: &TIES,
+        places: &[(1, 4)],
+    },
+    // A product of three is held in parts by its groups.
+    Orders {
+        first: b"best low(x) * low(x) * low(x) by y",
+        second: b"best low(x)",
+        rows: &TIES,
+        places: &[(1, 4)],
+    },
+    Orders {
+        first: b"best low(x)",
+        second: b"best low(x) by y",
+        rows: &TIES,
+        places: &[(1, 1), (1, 2), (1, 3), (1, 4), (1, 5)],
+    },
+    Orders {
+        first: b"best low(x) by y",
+        second: b"best low(y) by x",
+        rows: &PAIRED_BY_X,
+        places: &[(1, 2), (1, 3), (1, 4), (1, 6)],
+    },
+    Orders {
+        first: b"best low(x) * low(x) * low(x) by y",
+        second: b"best low(y) * low(y) * low(y) by x",
+        rows: &PAIRED_BY_X,
+        places: &[(1, 2), (1, 3), (1, 4), (1, 6)],
+    },
+];
+
 #[test]
 fn a_second_order_compares_all_that_is_held(rt: HostRuntime) -> Result<(), Fail> {
-    let alloc = rt.alloc();
-    let by_y = b"best low(x) by y";
-    let ties = [(5, 1), (5, 2), (5, 3), (4, 9), (5, 4), (6, 1)];
-    check_orders(&rt, alloc, by_y, b"best low(x)", &ties, &[(1, 4)])?;
-    // A product of three is held in parts by its groups.
-    let three_by_y = b"best low(x) * low(x) * low(x) by y";
-    check_orders(&rt, alloc, three_by_y, b"best low(x)", &ties, &[(1, 4)])?;
-    let first_five = [(1, 1), (1, 2), (1, 3), (1, 4), (1, 5)];
-    check_orders(&rt, alloc, b"best low(x)", by_y, &ties, &first_five)?;
-    let rows = [(5, 1), (6, 2), (7, 3), (5, 0), (6, 9), (8, 8)];
-    let places = [(1, 2), (1, 3), (1, 4), (1, 6)];
-    check_orders(&rt, alloc, by_y, b"best low(y) by x", &rows, &places)?;
-    let three_by_x = b"best low(y) * low(y) * low(y) by x";
-    check_orders(&rt, alloc, three_by_y, three_by_x, &rows, &places)
+    for case in &ORDERS {
+        check_orders(&rt, rt.alloc(), case)?;
+    }
+    Ok(())
 }

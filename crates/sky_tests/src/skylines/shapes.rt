@@ -81,11 +81,15 @@ fn push_shape(rows: &mut Vec<(i64, i64)>, shape: Shape) -> Result<(), AllocError
     Ok(())
 }
 
-/// The rows of a shape.
-fn of_shape(alloc: Global, shape: Shape) -> Result<Vec<Entry>, TableFault>
+/// These rows, and behind them those of a shape.
+fn of_shape_behind(
+    alloc: Global,
+    front: &[(i64, i64)],
+    shape: Shape,
+) -> Result<Vec<Entry>, TableFault>
     ensures { IfOk result (λ entries. HaveDifferentIds entries.items) }
 {
-    let mut rows = Vec::new(alloc);
+    let mut rows = front.to_vec(alloc)?;
     push_shape(&mut rows, shape)?;
     numbered(alloc, &rows)
 }
@@ -176,7 +180,7 @@ fn check_entries(
 fn check_shapes(rt: &impl Abort, alloc: Global, text: &str) -> Result<(), Fail> {
     let ask = ask_of(alloc, text.as_bytes())?;
     for (turn, shape) in SHAPES.iter().enumerate() {
-        let entries = of_shape(alloc, *shape)?;
+        let entries = of_shape_behind(alloc, &[], *shape)?;
         check_entries(rt, alloc, text, &ask, &entries, turn)?;
     }
     Ok(())
@@ -244,9 +248,7 @@ fn check_change(
 }
 
 fn check_changed(rt: &impl Abort, alloc: Global, case: &Change) -> Result<(), Fail> {
-    let mut rows = Vec::from_slice(alloc, case.front)?;
-    push_shape(&mut rows, Shape::FewValues)?;
-    let entries = numbered(alloc, &rows)?;
+    let entries = of_shape_behind(alloc, case.front, Shape::FewValues)?;
     let before = ask_of(alloc, case.first.0.as_bytes())?;
     let after = ask_of(alloc, case.second.0.as_bytes())?;
     let mut partial = Partial::empty();

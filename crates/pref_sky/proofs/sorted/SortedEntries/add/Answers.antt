@@ -1,5 +1,5 @@
 use Rattle.pref_sky.proofs.Common.{◌++◌, map, sym, subst, arith, take-append_seam, own_levels, HaveDifferentIds, entry_of}
-use Rattle.pref_sky.proofs.SortedLevels.{upper_differ, upper_levels}
+use Rattle.pref_sky.proofs.SortedLevels.{all_differ, own_merged}
 use Rattle.pref_sky.proofs.sorted.SortedEntries.add.Goals.{After-prune}
 use Rattle.pref_sky.proofs.sorted.SortedEntries.add.Goals as goal
 
@@ -16,9 +16,10 @@ invariant_of-self-in-Err c =
 pub invariant_of-self-in_default : goal.invariant_of-self-in_default
 invariant_of-self-in_default c =
     let new = c.prune.new.self in
-    grind (arith, upper_differ new.order new.entries.items c.prune.new.recent.items c.args.entries.now (coming_differ ((goal.at.invariant_of-self-in_default c).After-prune)))
+    grind (arith, all_differ new.order new.entries.items c.prune.new.recent.items c.args.entries.now (coming_differ ((goal.at.invariant_of-self-in_default c).After-prune)))
 
 pub returns-clause-ok : goal.returns-clause-ok
 returns-clause-ok c =
     let new = c.prune.new.self in
-    grind (arith, upper_levels new.order new.entries.items c.prune.new.recent.items c.args.entries.now (coming_differ ((goal.at.returns-clause-ok c).After-prune)))
+    let differ = coming_differ ((goal.at.returns-clause-ok c).After-prune) in
+    grind (arith, all_differ new.order new.entries.items c.prune.new.recent.items c.args.entries.now differ, own_merged new.order new.entries.items c.prune.new.recent.items c.args.entries.now differ)

@@ -6,8 +6,8 @@ use Rattle.pref_sky.proofs.sweep.Sweep.step.Goals as goal
 
 pub returns-in-Alike : goal.returns-in-Alike
 returns-in-Alike c =
-    let same = c.standing_at.ensures.same (λ apart. cc (apart, c.in-Alike.is)) in
-    let alike = c.standing_at.ensures.alike c.in-Alike.is in
+    let same = c.standing.ensures.same (λ apart. cc (apart, c.in-Alike.is)) in
+    let alike = c.standing.ensures.alike c.in-Alike.is in
     let swept = c.requires.swept.swept in
     let passed = c.requires.passed in
     let class = passed.class same.0 in
@@ -20,9 +20,9 @@ pub count_above-self-requires : goal.count_above-self-requires
 count_above-self-requires c =
     let leads = c.requires.swept in
     let so_far = c.requires.passed.so_far in
-    let stands = c.standing_at.ensures in
+    let stands = c.standing.ensures in
     let signed = c.sign-signature.ensures ∙ ap (rule_of c.args.lead.now) (get_or_read c.args.entries.now c.args.place c.index-entries-place.result c.requires.inside c.index-entries-place.is (record { id = 0; row = [] })) in
-    elim c.match-standing_at.branch [
+    elim c.match-standing.branch [
       | in-InClass w ↦
           let same = stands.same (λ apart. cc (apart, w.in-InClass.is)) in
           let class = class_goes_on leads.swept c.args.self.now.class c.args.place same.0 (c.requires.passed.class same.0) same.1 in
