@@ -2,7 +2,7 @@
 use Rattle.pref_core.proofs.Common.{◌≡◌, ℕ, zero, suc, ◌+◌, ◌<◌, ◌≤◌, Bool, true, false, not, cond, List, [], ◌∷◌, ◌++◌, map, length, Option, Some, None, slice_get, slice_set, refl, ap, ◌∙◌}
 use Rattle.pref_core.proofs.Common.{arith, count_by, count_by-le-length, or_parts, eqb-false, Version, Entry, among, is_needed, new_version, is_free, filled, not-false, length-map, Call}
 use Rattle.pref_core.proofs.Common.{ended, begun, success_outcome, succeeds, Contents, begins, close, grown, used, ◌&&◌, Result, Ok, is_some, length-append, append-nil}
-use Rattle.pref_core.proofs.Common.{append_assoc, Op, Change, Add, Set, Remove, begun_by, begins_any, changes_of, begins_row, is_change, missing, visible, placed, outcome_at, NoSuchRow, is_free_use}
+use Rattle.pref_core.proofs.Common.{append_assoc, Op, changes_of, begins_row, is_change, missing, visible, placed, outcome_at, NoSuchRow, is_free_use}
 use Rattle.pref_core.proofs.Common.{IsFreed, FindsFreed, is_open, uses_of, rules}
 use Rattle.pref_core.proofs.SlotSetsLaws.{count_set}
 use Rattle.pref_sky.proofs.ListLaws.{count_cons}
@@ -10,7 +10,7 @@ use Rattle.pref_core.proofs.StandsForLaws.{some_then}
 use Rattle.pref_core.proofs.SlotUseLaws.{one_no}
 use Rattle.pref_core.proofs.StabilityLaws.{slice_get-set_same, slice_get-set_other}
 use Rattle.pref_core.proofs.BoundsLaws.{length-filled}
-use Rattle.pref_core.proofs.ChangesLaws.{begun_few}
+use Rattle.pref_core.proofs.ChangesLaws.{begun_few, begins_some}
 
 one_of : (b : Bool) → b ≡ true → ◌≡◌ {A = ℕ} (cond b 1 0) 1
 one_of b e = ap (λ t. cond t 1 0) e
@@ -24,30 +24,21 @@ pub filled_needs : (made : ℕ) (ns places : List ℕ) (begun : List Entry) (slo
 filled_needs made ns [] begun slots after e = grind (arith)
 filled_needs made ns (place ∷ places) begun slots after e = grind (arith, filled_needs made ns places, count_by_set)
 
--- .. so they fit where there are slots
-pub filled_fits : (made : ℕ) (ns places : List ℕ) (begun : List Entry) (slots after : List (Option Version)) → filled (made ∷ ns) made places begun slots ≡ Some after
-    → count_by (is_needed (made ∷ ns)) slots + length begun ≤ length slots
-filled_fits made ns places begun slots after e = grind (arith, filled_needs, count_by-le-length, length-filled)
-
 -- one place more
 pub filled_snoc : (ns : List ℕ) (made : ℕ) (places : List ℕ) (begun : List Entry) (slots now : List (Option Version)) (place : ℕ) (fresh : Entry) → filled ns made places begun slots ≡ Some now → is_free ns now place ≡ true
     → filled ns made (places ++ place ∷ []) (begun ++ fresh ∷ []) slots ≡ Some (slice_set now place (new_version made fresh))
 filled_snoc ns made [] begun slots now place fresh e f = grind (arith)
 filled_snoc ns made (first ∷ places) begun slots now place fresh e f = grind (arith, filled_snoc ns made places)
 
-free_other : (ns : List ℕ) (slots : List (Option Version)) (place other : ℕ) (new : Option Version) → (place ≡ other → ⊥) → is_free ns (slice_set slots other new) place ≡ is_free ns slots place
-free_other ns slots place other new n = ap (λ (o : Option (Option Version)). elim o as (λ x. Bool) [ None ↦ false | Some slot ↦ not (is_needed ns slot) ]) (slice_get-set_other slots place other new n)
-
 -- a place that no row took is as free as before
 pub free_still : (ns : List ℕ) (made : ℕ) (places : List ℕ) (begun : List Entry) (slots now : List (Option Version)) (place : ℕ) → filled ns made places begun slots ≡ Some now → among places place ≡ false → is_free ns now place ≡ is_free ns slots place
-free_still ns made (first ∷ places) (entry ∷ rest) slots now place e a =
-    grind (arith, free_still ns made places rest (slice_set slots first (new_version made entry)) now place, or_parts, some_then, free_other, eqb-false)
+free_still ns made (first ∷ places) (entry ∷ rest) slots now place e a = grind (arith, free_still ns made places rest (slice_set slots first (new_version made entry)) now place, or_parts, some_then, slice_get-set_other, eqb-false)
 free_still ns made places begun slots now place e a = grind (arith)
 
 -- one that wasn't free isn't
 pub not_freed : (ns : List ℕ) (made : ℕ) (places : List ℕ) (begun : List Entry) (slots now : List (Option Version)) (place : ℕ) → filled ns made places begun slots ≡ Some now → is_free ns slots place ≡ false → is_free ns now place ≡ false
 not_freed ns made [] begun slots now place e n = grind (arith)
-not_freed ns made (first ∷ places) begun slots now place e n = grind (arith, not_freed ns made places, free_other)
+not_freed ns made (first ∷ places) begun slots now place e n = grind (arith, not_freed ns made places, slice_get-set_other)
 
 -- one that a row took isn't
 pub taken : (made : ℕ) (ns places : List ℕ) (begun : List Entry) (slots now : List (Option Version)) (place : ℕ) → filled (made ∷ ns) made places begun slots ≡ Some now → among places place ≡ true → is_free (made ∷ ns) now place ≡ false
@@ -57,7 +48,7 @@ taken made ns (first ∷ places) begun slots now place e a = grind (arith, taken
 -- where no place is free all are needed
 pub all_needed : (ns : List ℕ) (slots : List (Option Version)) → ((place : ℕ) → is_free ns slots place ≡ false) → count_by (is_needed ns) slots ≡ length slots
 all_needed ns [] h = refl
-all_needed ns (slot ∷ slots) h = grind (arith, all_needed ns slots (λ place. h (suc place)), count_cons (is_needed ns) slot slots, one_of (is_needed ns slot) (not-false (is_needed ns slot) (h zero)))
+all_needed ns (slot ∷ slots) h = grind (arith, all_needed ns slots (λ place. h (suc place)), count_cons (is_needed ns) slot slots, not-false (is_needed ns slot) (h zero))
 
 -- As long as rows are left that fit, some free place is not among those chosen so far: whoever looks at each place that was free finds one.
 pub some_left : (made : ℕ) (ns places : List ℕ) (begun : List Entry) (slots now : List (Option Version)) → filled (made ∷ ns) made places begun slots ≡ Some now
@@ -74,7 +65,7 @@ count_grown made ns (fresh ∷ rest) slots = grind (arith, count_grown made ns r
 pub plan_is_not_full : (contents : Contents) (call : Call) (places : List ℕ) (after : List (Option Version)) → filled (suc contents.stamp ∷ begins contents.callers) (suc contents.stamp) places (begun contents.next_id call) (map (close (ended call) (suc contents.stamp)) contents.slots) ≡ Some after
     → used (grown call contents) ≤ length contents.slots
 plan_is_not_full contents call places after e =
-    grind (arith, filled_fits (suc contents.stamp) (begins contents.callers) places, count_grown (suc contents.stamp) (begins contents.callers), length-map contents.slots (close (ended call) (suc contents.stamp)))
+    grind (arith, filled_needs (suc contents.stamp) (begins contents.callers) places, count_by-le-length, length-filled, count_grown (suc contents.stamp) (begins contents.callers), length-map contents.slots (close (ended call) (suc contents.stamp)))
 
 -- nothing ends
 pub close_none : (stamp : ℕ) (slots : List (Option Version)) → map (close [] stamp) slots ≡ slots
@@ -106,13 +97,6 @@ outcome_missing contents call id c lost = grind (arith)
 pub outcome_fits : (contents : Contents) (call : Call) (size : ℕ) → is_change call ≡ true → missing (ended call) (visible contents.stamp contents.slots) ≡ None → begins_row call ≡ true → size ≡ used (grown call contents) → size ≤ length contents.slots → success_outcome contents.next_id call ≡ outcome_at contents call
 outcome_fits contents call size c none row is small = grind (arith)
 
-begins_where : (changes : List Change) (next : ℕ) (done : List Entry) (fresh : Entry) (rest : List Entry) → begun_by next changes ≡ done ++ fresh ∷ rest → begins_any changes ≡ true
-begins_where [] next [] fresh rest e = absurd (cc)
-begins_where [] next (entry ∷ done) fresh rest e = absurd (cc)
-begins_where (Add row ∷ changes) next done fresh rest e = refl
-begins_where (Set id row ∷ changes) next done fresh rest e = refl
-begins_where (Remove id ∷ changes) next done fresh rest e = begins_where changes next done fresh rest e
-
 -- Rows that have their slots, before those that are left.
 pub record ChosenUpTo (contents : Contents) (call : Call) (rest : List Entry) (chosen : List ℕ) : Type 0 where
   pub done : List Entry
@@ -142,7 +126,7 @@ choose_one contents call fresh rest chosen place freed finds opens new h =
 pub one_left : (contents : Contents) (call : Call) (fresh : Entry) (rest : List Entry) (chosen freed : List ℕ) → IsFreed contents (ended call) freed
     → is_change call ≡ true → succeeds (outcome_at contents call) ≡ true → ((place : ℕ) → is_open (uses_of contents) freed place ≡ true → among chosen place ≡ true) → ChosenUpTo contents call (fresh ∷ rest) chosen → ⊥
 one_left contents call fresh rest chosen freed finds c ok taken h =
-    grind (arith, some_left (suc contents.stamp) (begins contents.callers) chosen h.done (closed_slots contents (ended call)) h.now h.fills, begins_where (changes_of call) contents.next_id h.done fresh rest h.all, count_grown (suc contents.stamp) (begins contents.callers) (begun contents.next_id call) (closed_slots contents (ended call)), length-map, length-append)
+    grind (arith, some_left (suc contents.stamp) (begins contents.callers) chosen h.done (closed_slots contents (ended call)) h.now h.fills, begins_some contents.next_id (changes_of call), count_grown (suc contents.stamp) (begins contents.callers) (begun contents.next_id call) (closed_slots contents (ended call)), length-map, length-append)
 
 -- all of them
 pub all_chosen : (contents : Contents) (call : Call) (chosen : List ℕ) → is_change call ≡ true → succeeds (outcome_at contents call) ≡ true → ChosenUpTo contents call [] chosen → is_some (placed contents call chosen (outcome_at contents call)) ≡ true

@@ -1,10 +1,10 @@
 -- After a commit the slots stand for the state after it: first as if there were always an empty slot, then in slots that are used again.
-use Rattle.pref_core.proofs.Common.{◌≡◌, ℕ, suc, ◌+◌, ◌<◌, ◌≤◌, true, false, ◌||◌, eqb, List, [], ◌∷◌, ◌++◌, map, Option, None, refl, sym, ap, ◌∙◌, subst, arith, AllByRecursion}
+use Rattle.pref_core.proofs.Common.{◌≡◌, ℕ, suc, ◌+◌, ◌<◌, true, false, eqb, List, [], ◌∷◌, ◌++◌, map, Option, None, refl, ap, ◌∙◌, subst, arith, AllByRecursion}
 use Rattle.pref_core.proofs.Common.{AllZip, IsPermutation, list_any-IsPermutation, IsPermutation-trans, IsPermutation-sym, IsPermutation-cons, IsPermutation-middle, Version, Call}
 use Rattle.pref_core.proofs.Common.{Caller, Line, among, put, without, with_rows, has, holds_key, IsOrdered, Entry, State, Client, committed, is_change, is_formed, changes_of, ended, begun, added}
 use Rattle.pref_core.proofs.Common.{missing, Contents, StandsFor, StandsForClient, Shows, AreDifferent, IsWithin, visible, new_version, close, grown, AreFresh}
 use Rattle.pref_core.proofs.TableLaws.{has-without, has_below, has_visible-new, IsOrdered-put}
-use Rattle.pref_core.proofs.StandsForLaws.{seen_born, put_permutes, Shows-close, clients-close, clients-new_version, clients-later}
+use Rattle.pref_core.proofs.StandsForLaws.{put_permutes, Shows-close, clients-close, clients-later, AllZip-weaker}
 use Rattle.pref_core.proofs.ChangesLaws.{ids_of, begun_fresh, found_all, formed_apart}
 use Rattle.pref_core.proofs.SlotKeys.{slot_keys, slot_keys-close, holds_key-new, within-close, within-more}
 
@@ -32,7 +32,7 @@ lines_of made begun = map (λ fresh. record { id = fresh.id; made = made; row = 
 -- new versions show their lines before the others
 visible_born : (made : ℕ) (begun : List Entry) (slots : List (Option Version)) → visible made (map (new_version made) begun ++ slots) ≡ lines_of made begun ++ visible made slots
 visible_born made [] slots = refl
-visible_born made (fresh ∷ rest) slots = rw (seen_born made fresh) (ap (λ l. record { id = fresh.id; made = made; row = fresh.row } ∷ l) (visible_born made rest slots))
+visible_born made (fresh ∷ rest) slots = grind (arith, visible_born made rest slots)
 
 -- a table with rows is, in some order, the rows and the table
 rows_permute : (made : ℕ) (begun : List Entry) (lines table : List Line) → IsPermutation lines table → IsPermutation (lines_of made begun ++ lines) (with_rows made begun table)
@@ -42,13 +42,10 @@ rows_permute made (fresh ∷ rest) lines table p =
     IsPermutation-trans _ _ _ (IsPermutation-sym _ _ (IsPermutation-middle (lines_of made rest) first lines))
     (rows_permute made rest (first ∷ lines) (put first table) (IsPermutation-trans _ _ _ (IsPermutation-cons first lines table p) (put_permutes first table)))
 
-has_put : (shown : Line) (table : List Line) (id : ℕ) → has (put shown table) id ≡ (eqb shown.id id || has table id)
-has_put shown table id = sym (list_any-IsPermutation (λ line. eqb line.id id) (shown ∷ table) (put shown table) (put_permutes shown table))
-
 -- what stays fresh once another row is there
 fresh_put : (limit : ℕ) (shown : Line) (table : List Line) (begun : List Entry) → among (ids_of begun) shown.id ≡ false → AreFresh limit table begun → AreFresh limit (put shown table) begun
 fresh_put limit shown table [] a h = grind (arith)
-fresh_put limit shown table (fresh ∷ rest) a h = grind (arith, fresh_put limit shown table rest, has_put)
+fresh_put limit shown table (fresh ∷ rest) a h = grind (arith, fresh_put limit shown table rest, list_any-IsPermutation (λ line. eqb line.id fresh.id) (shown ∷ table) (put shown table) (put_permutes shown table))
 
 rows_ordered : (limit made : ℕ) (begun : List Entry) (table : List Line) → AreFresh limit table begun → IsOrdered table → IsOrdered (with_rows made begun table)
 rows_ordered limit made [] table f h = h
@@ -56,7 +53,7 @@ rows_ordered limit made (fresh ∷ rest) table f h = grind (arith, rows_ordered 
 
 clients_rows : (now : ℕ) (begun : List Entry) (slots : List (Option Version)) (callers : List Caller) (clients : List Client) → AllZip (StandsForClient slots now) callers clients → AllZip (StandsForClient (map (new_version (suc now)) begun ++ slots) now) callers clients
 clients_rows now [] slots callers clients h = h
-clients_rows now (fresh ∷ rest) slots callers clients h = clients-new_version now fresh (map (new_version (suc now)) rest ++ slots) callers clients (clients_rows now rest slots callers clients h)
+clients_rows now (fresh ∷ rest) slots callers clients h = grind (arith, clients_rows now rest slots callers clients h, AllZip-weaker)
 
 -- the keys of the new versions are new, and different
 key_born : (made id : ℕ) (begun : List Entry) (slots : List (Option Version)) → among (ids_of begun) id ≡ false → holds_key (slot_keys slots) (record { id = id; made = made }) ≡ false → holds_key (slot_keys (map (new_version made) begun ++ slots)) (record { id = id; made = made }) ≡ false
@@ -92,17 +89,9 @@ begun_stands contents state ids more begun h fresh =
       within = within_rows (contents.next_id + more) contents.stamp begun (without ids state.table) closed fresh base.within;
     }
 
--- no id from the next one on is in the table, ..
-later_absent : (contents : Contents) (state : State) (id : ℕ) → StandsFor contents state → contents.next_id ≤ id → has state.table id ≡ false
-later_absent contents state id h l = sym (has_visible contents.slots contents.stamp state.table h.table id) ∙ has_visible-new contents.next_id contents.stamp contents.stamp contents.slots id h.within l
-
--- .. so those of the table are below it
+-- the ids of the table are below the next one
 pub id_below : (contents : Contents) (state : State) (id : ℕ) → StandsFor contents state → has state.table id ≡ true → id < contents.next_id
 id_below contents state id h is = has_below contents.next_id contents.stamp contents.stamp contents.slots id h.within (has_visible contents.slots contents.stamp state.table h.table id ∙ is)
-
-has-fewer : (ids : List ℕ) (table : List Line) (id : ℕ) → has table id ≡ false → has (without ids table) id ≡ false
-has-fewer ids [] id h = grind (arith)
-has-fewer ids (next ∷ rest) id h = grind (arith, has-fewer ids rest id)
 
 -- as if there were always empty slots
 pub grown_stands : (contents : Contents) (state : State) (call : Call) → is_change call ≡ true → is_formed call ≡ true → missing (ended call) state.table ≡ None → StandsFor contents state → StandsFor (grown call contents) (committed call state)
@@ -110,6 +99,6 @@ grown_stands contents state call c formed m h =
     subst (λ n. StandsFor (grown call contents) (record { table = with_rows (suc state.commits) (begun n call) (without (ended call) state.table); next_id = state.next_id + added call; commits = suc state.commits; clients = state.clients })) h.next_id
     (begun_stands contents state (ended call) (added call) (begun contents.next_id call) h
     (begun_fresh contents.next_id contents.next_id (contents.next_id + added call) (without (ended call) state.table) (changes_of call) (omega arith) (omega arith)
-    (λ id there. (id_below contents state id h (found_all (ended call) state.table m id there), has-without (ended call) state.table id there))
-    (λ id l. has-fewer (ended call) state.table id (later_absent contents state id h l))
+    (λ id there. (id_below contents state id h (found_all (ended call) state.table m id there), grind (arith, has-without)))
+    (λ id l. grind (arith, has-without, has_visible contents.slots contents.stamp state.table h.table id, has_visible-new contents.next_id contents.stamp contents.stamp contents.slots id h.within l))
     (formed_apart call formed)))

@@ -2,7 +2,7 @@
 use Rattle.pref_core.proofs.Common.{◌≡◌, ℕ, List, ◌-◌, true, false, cond, length, Option, Some, None, is_some, Ok, Err, Result, refl, sym, ap, ◌∙◌, subst, arith}
 use Rattle.pref_core.proofs.Common.{Does, option_map, Question, Ranked, answer_of, Begin, Finish, Abandon, Call, Op, CoreFault, NotDone, MissingRow, Act, ActBegin, ActFinish}
 use Rattle.pref_core.proofs.Common.{ActAbandon, ActGet, ActRoom, Reply, Answer, Abandoned, Begun, Found, Room, Row, Line, line_of, entries, State, is_change, seat, begin, blocks, AreAllowed}
-use Rattle.pref_core.proofs.Common.{refusal_by_query, begun_after, needed, Open, Member, System, snapshot, state_of, refused, counted_with, finish, step, StandsFor}
+use Rattle.pref_core.proofs.Common.{refusal_by_query, begun_after, needed, Open, Member, System, snapshot, state_of, refused, counted_with, step, StandsFor}
 use Rattle.pref_core.proofs.Common.{applied, called, Scan, Running, Follows, StandsForQuery, StandsForSystem, Returns, is_refusal, AnswersAt, IsPlan, Version, step_of}
 use Rattle.std.specs.Global.{Vec}
 use Rattle.pref_core.specs.MachineParts.{numbered}
@@ -28,13 +28,9 @@ begin_does old client ask op allowed plan = record {
   limits = refl;
   returns = λ system h.
       let planned = IsPlanned-from old system client Begin op h plan in
-      called_returns old system client (ActBegin ask) Begin op planned _ (Some (query_of ask old.limits system)) (Begun (blocks old.limits)) refl refl (steps system planned.let_in.who planned.let_in.who.query planned.let_in.allowed) refl
+      called_returns old system client (ActBegin ask) Begin op planned _ (Some (query_of ask old.limits system)) (Begun (blocks old.limits)) refl refl (let let_in = planned.let_in.allowed in grind (arith)) refl
       (follows_begun old.limits (applied old.contents op).slots ask system old.contents.stamp allowed planned.long h.store.stamp);
 }
-  where
-    steps : (system : System) (who : Member) (q : Option Open) → refusal_by_query (is_some (option_map snapshot q)) Begin ≡ None
-        → step_of old.limits system client who (ActBegin ask) q ≡ numbered who system (record { reply = Begun (blocks old.limits); next = counted_with (Some (query_of ask old.limits system)) client who system })
-    steps system who q a = grind (arith)
 
 -- A query is abandoned.
 pub abandon_does : (old : Running) (client : ℕ) (op : Op) → IsPlan old.contents client Abandon op → Does old client ActAbandon (Ok Abandoned) (called old client op None)
@@ -42,12 +38,8 @@ abandon_does old client op plan = record {
   limits = refl;
   returns = λ system h.
       let planned = IsPlanned-from old system client Abandon op h plan in
-      called_returns old system client ActAbandon Abandon op planned None None Abandoned refl refl (steps system planned.let_in.who planned.let_in.who.query planned.let_in.allowed) refl tt;
+      called_returns old system client ActAbandon Abandon op planned None None Abandoned refl refl (let let_in = planned.let_in.allowed in grind (arith)) refl tt;
 }
-  where
-    steps : (system : System) (who : Member) (q : Option Open) → refusal_by_query (is_some (option_map snapshot q)) Abandon ≡ None
-        → step_of old.limits system client who ActAbandon q ≡ numbered who system (record { reply = Abandoned; next = counted_with None client who system })
-    steps system who q a = grind (arith)
 
 -- who may finish has a query
 record IsAsking (slots : List (Option Version)) (scan : Option Scan) (query : Option Open) : Type 0 where
@@ -59,11 +51,6 @@ record IsAsking (slots : List (Option Version)) (scan : Option Scan) (query : Op
 
 IsAsking-from : (slots : List (Option Version)) (scan : Option Scan) (query : Option Open) → StandsForQuery slots scan query → refusal_by_query (is_some (option_map snapshot query)) Finish ≡ None → IsAsking slots scan query
 IsAsking-from slots scan query s a = grind (arith)
-
--- the step of a finish that is let in
-finish_is : (old : Running) (system : System) (client : ℕ) (op : Op) (planned : IsPlanned old system client Finish op) (query : Open) → planned.let_in.who.query ≡ Some query
-    → step_of old.limits system client planned.let_in.who ActFinish planned.let_in.who.query ≡ numbered planned.let_in.who system (finish client planned.let_in.who system query)
-finish_is old system client op planned query is = ap (step_of old.limits system client planned.let_in.who ActFinish) is
 
 -- A query finishes.
 pub finish_does : (old : Running) (client : ℕ) (op : Op) (ranked : Vec Ranked) → IsPlan old.contents client Finish op → AnswersAt (seat client old.scans) (Ok ranked) → Does old client ActFinish (Ok (Answer ranked.items)) (called old client op None)
@@ -78,7 +65,7 @@ finish_does old client op ranked plan says = record {
       let answer = follows_answered old.contents.slots asks.held asks.asked ranked.items shows asks.follows answers.0 answers.1 in
       called_returns old system client ActFinish Finish op planned None None (Answer ranked.items) refl refl
       (
-      finish_is old system client op planned asks.asked asks.is
+      ap (step_of old.limits system client who.who ActFinish) asks.is
       ∙ ap (λ b. numbered who.who system (cond b (refused (NotDone asks.asked.left) system) (record { reply = Answer (answer_of asks.asked.ask (entries asks.asked.table)); next = counted_with None client who.who system }))) (no_left asks.asked.left (sym asks.follows.left ∙ answers.0))
       ∙ ap (λ l. numbered who.who system (record { reply = Answer l; next = counted_with None client who.who system })) (sym answer)
       )
@@ -94,9 +81,8 @@ finish_not_done old client op fault plan says = record {
       let who = planned.let_in in
       let asks = IsAsking-from old.contents.slots who.scan who.who.query who.stands who.allowed in
       let answers = subst (λ o. AnswersAt o (Err fault)) (who.place ∙ ap Some asks.place) says in
-      let steps = somebody_steps old.limits system client ActFinish who.who who.at ∙ finish_is old system client op planned asks.asked asks.is ∙ let_in_steps who.who system _ who.unspent in
       let left = asks.follows.left in
-      grind (arith, some_left, no_left);
+      grind (arith, somebody_steps, some_left, no_left);
 }
 
 -- Reads of a client that is there.

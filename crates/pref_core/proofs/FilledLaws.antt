@@ -18,6 +18,7 @@ use Rattle.pref_core.proofs.Permutations.{IsPermutation-filter}
 use Rattle.pref_core.proofs.ChosenSlots.{close_none, filled_snoc, free_still, taken}
 use Rattle.pref_core.proofs.TableLaws.{has_below, has_visible-new}
 use Rattle.pref_core.proofs.OutcomeLaws.{IsAllowed-from, succeeds-missing}
+use Rattle.pref_core.proofs.StandsForLaws.{fills_nothing}
 
 -- lists are equal where they are at each place
 pub same_at_each : {X : Type 0} (xs ys : List X) → ((k : ℕ) → slice_get xs k ≡ slice_get ys k) → xs ≡ ys
@@ -25,11 +26,8 @@ same_at_each [] [] h = refl
 same_at_each (x ∷ xs) (y ∷ ys) h = let first : x ≡ y = let e = h zero in cc in ap₂ ◌∷◌ first (same_at_each xs ys (λ k. h (suc k)))
 same_at_each xs ys h = absurd (let bad = h zero in cc)
 
--- a slot that doesn't show the id's row stays
-idle : (next made id : ℕ) (slot : Option Version) → IsWithin next made slot → is_row made id slot ≡ false → close (id ∷ []) made slot ≡ slot
-idle next made id slot w r = grind (arith)
-
 module _ (next made id : ℕ) (slots : List (Option Version)) (within : AllByRecursion (IsWithin next made) slots) where
+  -- a slot that doesn't show the id's row stays
   stays : (k : ℕ) → (row_at made id slots k ≡ true → ⊥) → slice_get (map (close (id ∷ []) made) slots) k ≡ slice_get slots k
   stays k n = grind (arith, slice_get-map, holds_there)
 
@@ -63,14 +61,11 @@ ids_closed ids made slots known = record {
     was : (p x : ℕ) → id_at (ids_of made (map (close ids made) slots)) p ≡ Some x → id_at (ids_of made slots) p ≡ Some x
     was p x at = row_shown made x slots p (row_back ids made x slots p (shows_row made x (map (close ids made) slots) p at))
 
--- A slot is written, which shows this id or none.
-links_set : (made place : ℕ) (new : Option Version) (id : Option ℕ) (slots : List (Option Version)) (links : List ℕ) → shown made new ≡ id → AreLinks (length slots) (set (ids_of made slots) place id) links
-    → AreLinks (length (set slots place new)) (ids_of made (set slots place new)) links
-links_set made place new id slots links is h = rw (length-set slots place new, map-set (shown made) slots place new, is) h
-
--- One slot_use is written.
-pub closed_uses : (callers : List Caller) (slots : List (Option Version)) (uses new : List SlotUse) (place : ℕ) (slot : Option Version) (slot_use : SlotUse) → uses ≡ map (use_of callers) slots → slot_use ≡ use_of callers slot → new ≡ set uses place slot_use → new ≡ map (use_of callers) (set slots place slot)
-closed_uses callers slots uses new place slot slot_use listed is returned = grind (arith, map-set)
+-- A slot is written, and the lists beside the slots go along.
+write_tracked : (contents : Contents) (uses : List SlotUse) (links : List ℕ) (place : ℕ) (new : Option Version) (uses_new : List SlotUse) (links_new : List ℕ) → IsTracked contents uses links → IsWithin contents.next_id contents.stamp new
+    → uses_new ≡ set uses place (use_of contents.callers new) → AreLinks (length contents.slots) (set (ids_of contents.stamp contents.slots) place (shown contents.stamp new)) links_new → AreIds (2 ^ 64) (id_at (ids_of contents.stamp (set contents.slots place new)))
+    → IsTracked (with_slots (set contents.slots place new) contents) uses_new links_new
+write_tracked contents uses links place new uses_new links_new h within returned linked known = grind (arith, AllByRecursion-set, map-set, length-set)
 
 -- The ids that a store's slots show are ids, ..
 pub known_ids : (contents : Contents) (state : State) → IsBounded contents → StandsFor contents state → AreIds (2 ^ 64) (id_at (ids_of contents.stamp contents.slots))
@@ -87,12 +82,9 @@ pub place_known : (stamp id place : ℕ) (slots : List (Option Version)) (found 
 place_known stamp id place slots found known at is = grind (arith, has_row_at, row_shown)
 
 -- At the next stamp the slots show the same, before a slot is written.
-shown_next : (next now : ℕ) (slot : Option Version) → IsWithin next now slot → shown (suc now) slot ≡ shown now slot
-shown_next next now slot h = grind (arith)
-
 pub ids_next : (next now : ℕ) (slots : List (Option Version)) → AllByRecursion (IsWithin next now) slots → ids_of (suc now) slots ≡ ids_of now slots
 ids_next next now [] h = refl
-ids_next next now (slot ∷ slots) h = ap₂ ◌∷◌ (shown_next next now slot h.0) (ids_next next now slots h.1)
+ids_next next now (slot ∷ slots) h = grind (arith, ids_next next now slots h.1)
 
 -- .. and they are known as a commit begins: nothing is ahead of it, and the lists beside the slots are as before.
 pub tracked_next : (contents : Contents) (uses : List SlotUse) (links : List ℕ) (more : ℕ) → IsTracked contents uses links
@@ -221,10 +213,6 @@ begun_all start now (place ∷ places) all h = absurd (true≢false (sym h.some 
 pub end_none : (contents : Contents) (uses : List SlotUse) (links : List ℕ) (id : ℕ) → IsTracked contents uses links → IsPlaceOf contents.stamp id contents.slots None → contents ≡ with_slots (map (close (id ∷ []) contents.stamp) contents.slots) contents
 end_none contents uses links id h absent = ap (λ l. with_slots l contents) (sym (none_closed contents.next_id contents.stamp id contents.slots h.within absent))
 
--- a version that stands in the table has no end
-no_end : (next made id : ℕ) (version : Version) → IsWithin next made (Some version) → is_row made id (Some version) ≡ true → version.death ≡ None
-no_end next made id version within row = grind (arith)
-
 module _ (contents : Contents) (uses : List SlotUse) (links : List ℕ) (id place : ℕ) (version : Version) (h : IsTracked contents uses links) (row : row_at contents.stamp id contents.slots place ≡ true) (at : slice_get contents.slots place ≡ Some (Some version)) where
   abbrev last : Option Version
   last = Some (record version { death = Some contents.stamp })
@@ -236,7 +224,7 @@ module _ (contents : Contents) (uses : List SlotUse) (links : List ℕ) (id plac
   row_here = ap (λ o. elim o as (λ x. Bool) [ None ↦ false | Some s ↦ is_row contents.stamp id s ]) (sym at) ∙ row
 
   closes : ◌≡◌ {A = Option Version} (Some (record version { death = close_at contents.stamp true version.death })) last
-  closes = ap (λ d. Some (record version { death = close_at contents.stamp true d })) (no_end contents.next_id contents.stamp id version within_here row_here)
+  closes = grind (arith, within_here, row_here)
 
   gone : shown contents.stamp last ≡ None
   gone = grind (arith)
@@ -250,13 +238,7 @@ module _ (contents : Contents) (uses : List SlotUse) (links : List ℕ) (id plac
   pub end_tracked : (slot_use : SlotUse) (uses_new : List SlotUse) (links_new : List ℕ) → slot_use ≡ use_of contents.callers last → uses_new ≡ set uses place slot_use
       → AreLinks (length contents.slots) (set (ids_of contents.stamp contents.slots) place None) links_new
       → IsTracked (with_slots (set contents.slots place last) contents) uses_new links_new
-  end_tracked slot_use uses_new links_new is returned linked = record {
-    seats = h.seats;
-    within = AllByRecursion-set (IsWithin contents.next_id contents.stamp) contents.slots place last (within_here.0, within_here.1, omega arith) h.within;
-    listed = closed_uses contents.callers contents.slots uses uses_new place last slot_use h.listed is returned;
-    linked = links_set contents.stamp place last None contents.slots links_new gone linked;
-    ids = subst (λ l. AreIds (2 ^ 64) (id_at (ids_of contents.stamp l))) (sym end_slots) (ids_closed (id ∷ []) contents.stamp contents.slots h.ids);
-  }
+  end_tracked slot_use uses_new links_new is returned linked = grind (arith, write_tracked contents uses links place last uses_new links_new h, within_here, gone, end_slots, ids_closed (id ∷ []) contents.stamp contents.slots h.ids)
 
   visible_here : (eqb version.id id ≡ true) × (is_visible contents.stamp version ≡ true)
   visible_here = and_parts (eqb version.id id) (is_visible contents.stamp version) row_here
@@ -287,13 +269,8 @@ pub begin_tracked : (contents : Contents) (uses : List SlotUse) (links : List �
     → has (visible contents.stamp contents.slots) entry.id ≡ false → entry.id < contents.next_id → entry.id < 2 ^ 64 → row ≡ new_version contents.stamp entry → uses_new ≡ set uses place Live
     → AreLinks (length contents.slots) (set (ids_of contents.stamp contents.slots) place (Some entry.id)) links_new
     → IsTracked (with_slots (set contents.slots place row) contents) uses_new links_new
-begin_tracked contents uses links entry place row uses_new links_new h free absent low small is returned linked = record {
-  seats = h.seats;
-  within = subst (λ r. AllByRecursion (IsWithin contents.next_id contents.stamp) (set contents.slots place r)) (sym is) (AllByRecursion-set (IsWithin contents.next_id contents.stamp) contents.slots place (new_version contents.stamp entry) (low, omega arith, tt) h.within);
-  listed = closed_uses contents.callers contents.slots uses uses_new place row Live h.listed (sym (ap (use_of contents.callers) is)) returned;
-  linked = links_set contents.stamp place row (Some entry.id) contents.slots links_new (grind (arith)) linked;
-  ids = subst (λ r. AreIds (2 ^ 64) (id_at (ids_of contents.stamp (set contents.slots place r)))) (sym is) (ids_born contents.stamp place entry contents.slots small (free_inside contents uses links place h free) absent h.ids);
-}
+begin_tracked contents uses links entry place row uses_new links_new h free absent low small is returned linked =
+    grind (arith, write_tracked contents uses links place row uses_new links_new h, ids_born contents.stamp place entry contents.slots small (free_inside contents uses links place h free) absent h.ids)
 
 -- Whether an op's slots fit.
 pub fits_begun : (contents : Contents) (op : Op) → is_change op.call ≡ true → succeeds op.outcome ≡ true → length op.slots ≡ length (begun contents.next_id op.call)
@@ -303,21 +280,12 @@ fits_begun contents op c s long = grind (arith, fills_free)
 pub fits_other : (contents : Contents) (op : Op) → is_change op.call ≡ true → succeeds op.outcome ≡ true → (length op.slots ≡ length (begun contents.next_id op.call) → ⊥) → is_some (slots_after contents op) ≡ false
 fits_other contents op c s n = grind (arith, fills_not)
 
--- No row fits in no slot alone.
-fills_nothing : (ns : List ℕ) (made : ℕ) (places : List ℕ) (slots : List (Option Version)) → is_some (filled ns made places [] slots) ≡ nat_eq (length places) 0
-fills_nothing ns made [] slots = refl
-fills_nothing ns made (place ∷ places) slots = grind (arith)
-
-nothing_filled : (ns : List ℕ) (made : ℕ) (places : List ℕ) (slots : List (Option Version)) → is_some (filled ns made places [] slots) ≡ true → filled ns made places [] slots ≡ Some slots
-nothing_filled ns made [] slots fits = refl
-nothing_filled ns made (place ∷ places) slots fits = grind (arith)
-
 pub fits_quiet : (contents : Contents) (op : Op) (empty : Bool) → (is_change op.call && succeeds op.outcome) ≡ false → empty ≡ nat_eq (length op.slots) 0 → empty ≡ is_some (slots_after contents op)
 fits_quiet contents op empty quiet is = grind (arith, fills_nothing)
 
 -- A call that is no commit, or isn't done, leaves the slots.
 pub slots_still : (contents : Contents) (op : Op) → (is_change op.call && succeeds op.outcome) ≡ false → is_some (slots_after contents op) ≡ true → slots_after contents op ≡ Some contents.slots
-slots_still contents op quiet fits = grind (arith, nothing_filled)
+slots_still contents op quiet fits = grind (arith, fills_nothing)
 
 -- The contents as a commit begins, that adds so many rows.
 abbrev pub begun_commit : Contents → ℕ → Contents

@@ -1,7 +1,7 @@
 -- The slots of a change that are known by a look at them alone.
-use Rattle.pref_core.proofs.Common.{◌≡◌, ℕ, suc, ◌+◌, ◌≤◌, Bool, true, false, ◌&&◌, cond, eqb, List, [], ◌∷◌, ◌++◌, length, take, drop, Option, Some, None, is_some, IfSome, slice_get, ◌⊎◌, inl}
+use Rattle.pref_core.proofs.Common.{◌≡◌, ℕ, suc, ◌+◌, ◌≤◌, Bool, true, false, ◌&&◌, cond, eqb, List, [], ◌∷◌, length, take, drop, Option, Some, None, is_some, IfSome, slice_get, ◌⊎◌, inl}
 use Rattle.pref_core.proofs.Common.{inr, ⊎_elim, refl, sym, ap, ◌∙◌, subst, arith, eqb-true, true≢false, append-nil, Call, Op, Change, Add, Set, Remove, Version, ended_by}
-use Rattle.pref_core.proofs.Common.{begun_by, begins_any, row_at, IsKept, FitAtOnce, FitsNext, are_free, frees_at, uses_of, filled, is_free, is_next, slots_after, used, free_at, Contents, begins}
+use Rattle.pref_core.proofs.Common.{begun_by, begins_any, row_at, IsKept, FitAtOnce, FitsNext, are_free, frees_at, uses_of, is_free, is_next, slots_after, used, free_at, Contents, begins}
 use Rattle.pref_core.proofs.Common.{visible, begun, changes_of, ended, is_change, is_formed, missing, Line, among, false_from_ne_true, drop_all}
 use Rattle.std.specs.Option.{option_eq}
 use Rattle.pref_core.proofs.ChangesLaws.{among_append, among_inside, drop_at, ended_so_far, formed_apart, take_at, named_at, one_begins}
@@ -9,6 +9,7 @@ use Rattle.pref_core.proofs.ChosenSlots.{ChosenUpTo, all_chosen, closed_slots, o
 use Rattle.pref_core.proofs.FilledLaws.{fills_free}
 use Rattle.pref_core.proofs.FreedLaws.{free_closed, frees_closed, named_once, row_taken}
 use Rattle.pref_core.proofs.SlotUseLaws.{has_row_at}
+use Rattle.pref_core.proofs.StandsForLaws.{some_is}
 
 -- Slots for all rows that a change begins, which misses none: it succeeds.
 chosen_at_once : (contents : Contents) (call : Call) (slots : List ℕ) → is_change call ≡ true → is_formed call ≡ true → missing (ended call) (visible contents.stamp contents.slots) ≡ None → ChosenUpTo contents call [] slots → FitAtOnce contents call slots
@@ -30,9 +31,6 @@ pub record FitsUpTo (contents : Contents) (call : Call) (slots : List ℕ) (at u
   pub taken : (place : ℕ) → among (take used slots) place ≡ true → Was contents (ended_by (take at (changes_of call))) place
   pub long : (next_id : ℕ) → used + length (begun_by next_id (drop at (changes_of call))) ≡ length (begun next_id call)
 
-among_last : (xs : List ℕ) (last id : ℕ) → among (xs ++ last ∷ []) id ≡ true → (among xs id ≡ true) ⊎ (last ≡ id)
-among_last xs last id a = grind (arith, among_append)
-
 module _ (contents : Contents) (call : Call) (slots : List ℕ) (kept : IsKept contents) (at used : ℕ) (change : Change) (here : slice_get (changes_of call) at ≡ Some change) (h : FitsUpTo contents call slots at used) where
   abbrev table : List Line
   table = visible contents.stamp contents.slots
@@ -48,12 +46,7 @@ module _ (contents : Contents) (call : Call) (slots : List ℕ) (kept : IsKept c
   there_one id place named row = grind (arith, has_row_at, drop_at)
 
   weaker : (place : ℕ) → Was contents (ended_by (take at changes)) place → Was contents (ended_by (take (at + 1) changes)) place
-  weaker place (inl free) = inl free
-  weaker place (inr stood) = inr (record {
-    id = stood.id;
-    named = grind (arith, ended_so_far changes at change here, among_append (ended_by (take at changes)) (ended_by (change ∷ [])) stood.id);
-    row = stood.row;
-  })
+  weaker place was = grind (arith, ended_so_far changes at change here, among_append)
 
   -- a slot that fits
   slot_taken : (place : ℕ) → slice_get slots used ≡ Some place → is_free (stamps_next contents) closed place ≡ true → among (take used slots) place ≡ false
@@ -64,7 +57,7 @@ module _ (contents : Contents) (call : Call) (slots : List ℕ) (kept : IsKept c
   all_taken last is was place a = ⊎_elim
       (λ (e : among (take used slots) place ≡ true). weaker place (h.taken place e))
       (λ (e : last ≡ place). subst (Was contents (ended_by (take (at + 1) changes))) e was)
-      (among_last (take used slots) last place (sym (ap (λ l. among l place) (take_at slots used last is)) ∙ a))
+      (grind (arith, take_at slots used last is, among_append))
 
   length_one : (begins : Bool) → begins_any (change ∷ []) ≡ begins → (next_id : ℕ) → used + cond begins (suc (length (begun_by next_id (drop (at + 1) changes)))) (length (begun_by next_id (drop (at + 1) changes))) ≡ length (begun next_id call)
   length_one begins e next_id = grind (arith, one_begins next_id change (drop (at + 1) changes) begins e, drop_at changes at change here)
@@ -107,28 +100,14 @@ fits_change contents call slots at used after (Remove id) kept formed here n h =
 })
 
 pub fits_all : (contents : Contents) (call : Call) (slots : List ℕ) (at used : ℕ) → is_change call ≡ true → is_formed call ≡ true → length (changes_of call) ≤ at → length slots ≡ used → FitsUpTo contents call slots at used → FitAtOnce contents call slots
-fits_all contents call slots at used c formed done long h = chosen_at_once contents call slots c formed there (go (filled (stamps_next contents) (suc contents.stamp) slots (begun contents.next_id call) closed) refl fits)
-  where
-    closed : List (Option Version)
-    closed = closed_slots contents (ended call)
-
-    none : drop at (changes_of call) ≡ []
-    none = drop_all at (changes_of call) done
-
-    there : missing (ended call) (visible contents.stamp contents.slots) ≡ None
-    there = sym h.there ∙ ap (λ l. missing (ended_by l) (visible contents.stamp contents.slots)) none
-
-    free : are_free (stamps_next contents) closed [] slots ≡ true
-    free = sym h.free ∙ ap (are_free (stamps_next contents) closed (take used slots)) (drop_all used slots (omega arith))
-
-    many : length slots ≡ length (begun contents.next_id call)
-    many = let all = ap (λ l. used + length (begun_by contents.next_id l)) (sym none) ∙ h.long contents.next_id in omega (arith, all, long)
-
-    fits : is_some (filled (stamps_next contents) (suc contents.stamp) slots (begun contents.next_id call) closed) ≡ true
-    fits = sym (fills_free (suc contents.stamp) (begins contents.callers) closed slots (begun contents.next_id call) many) ∙ free
-
-    go : (o : Option (List (Option Version))) → filled (stamps_next contents) (suc contents.stamp) slots (begun contents.next_id call) closed ≡ o → is_some o ≡ true → ChosenUpTo contents call [] slots
-    go o e some = grind (arith, append-nil)
+fits_all contents call slots at used c formed done long h =
+    let none : drop at (changes_of call) ≡ [] = drop_all at (changes_of call) done in
+    let there : missing (ended call) (visible contents.stamp contents.slots) ≡ None = sym h.there ∙ ap (λ l. missing (ended_by l) (visible contents.stamp contents.slots)) none in
+    let free : are_free (stamps_next contents) (closed_slots contents (ended call)) [] slots ≡ true = sym h.free ∙ ap (are_free (stamps_next contents) (closed_slots contents (ended call)) (take used slots)) (drop_all used slots (omega arith)) in
+    let all = ap (λ l. used + length (begun_by contents.next_id l)) (sym none) ∙ h.long contents.next_id in
+    let many : length slots ≡ length (begun contents.next_id call) = omega (arith, all, long) in
+    let fits = some_is _ (sym (fills_free (suc contents.stamp) (begins contents.callers) (closed_slots contents (ended call)) slots (begun contents.next_id call) many) ∙ free) in
+    chosen_at_once contents call slots c formed there (record { done = begun contents.next_id call; all = sym (append-nil _); now = fits.0; fills = fits.1 })
 
 -- None is used before the first change, ..
 pub fits_none : (contents : Contents) (call : Call) (slots : List ℕ) → FitsUpTo contents call slots 0 0

@@ -74,12 +74,9 @@ module _ (contents : Contents) (state : State) (bounded : IsBounded contents) (s
   within ids = within-close ids contents.next_id contents.stamp contents.slots stands.within
 
   -- a slot that is free stays free
-  slot_freed : (ids : List ℕ) (slot : Option Version) → is_free_use (use_of contents.callers slot) ≡ true → is_free_use (use_of contents.callers (close ids made slot)) ≡ true
-  slot_freed ids slot f = grind (arith)
-
   still_free : (ids : List ℕ) (slots : List (Option Version)) (place : ℕ) → free_at (map (use_of contents.callers) slots) place ≡ true → free_at (map (use_of contents.callers) (map (close ids made) slots)) place ≡ true
   still_free ids (slot ∷ slots) (suc place) f = still_free ids slots place f
-  still_free ids slots place f = grind (arith, slot_freed)
+  still_free ids slots place f = grind (arith)
 
   frees_use : (ids : List ℕ) (place : ℕ) → free_at (map (use_of contents.callers) (map (close ids made) contents.slots)) place ≡ frees_at ns ids made contents.slots place
   frees_use ids place = grind (arith, slice_get-map, spare_use)

@@ -3,8 +3,7 @@ use Rattle.pref_core.proofs.Common.{◌≡◌, ℕ, suc, ◌<◌, true, List, �
 use Rattle.pref_core.proofs.Common.{AreLinked, IsOnWay, rank, IsBefore, slice_get-get_or, ◌^◌, false, set, slice_index, length-map, length-set, get_or-set_same, get_or-set_other, true≢false, IsPlaceOf, shown, home_of, AreLinks}
 use Rattle.pref_core.proofs.Common.{false_from_ne_true}
 use Rattle.pref_core.proofs.StabilityLaws.{slice_get-set_other}
-use Rattle.pref_core.proofs.SlotUseLaws.{has_row_at}
-use Rattle.pref_core.proofs.IndexedRows.{no_place}
+use Rattle.pref_core.proofs.SlotUseLaws.{has_row_at, has_nowhere}
 
 -- One step along a chain.
 pub way_on : (limit capacity : ℕ) (homes : ℕ → ℕ) (ids : ℕ → Option ℕ) (links : ℕ → ℕ) (id node : ℕ) → AreLinked limit capacity homes ids links → homes id < capacity
@@ -123,9 +122,6 @@ removed limit capacity homes ids after links linked_after id place node known wi
         let apart : links n ≡ place → ⊥ = grind (arith, goes.same, goes.most, leads.most, known.once, known.small) in
         grind (arith, goes.same, goes.most, goes.past)
 
-pub home_inside : (capacity id : ℕ) → 0 < capacity → home_of capacity id < capacity
-home_inside capacity id some = omega arith
-
 pub within_at : (stamp : ℕ) (slots : List (Option Version)) (place id : ℕ) → id_at (ids_of stamp slots) place ≡ Some id → place < length slots
 within_at stamp slots place id at = let less = id_within (ids_of stamp slots) place id at in let long = length-map slots (shown stamp) in omega arith
 
@@ -139,8 +135,8 @@ id_at-there ids place new p d = ap (λ (o : Option (Option ℕ)). elim o as (λ 
 pub nowhere : (stamp id : ℕ) (slots : List (Option Version)) (links : List ℕ) (node : ℕ) → 0 < length slots → AreLinks (length slots) (ids_of stamp slots) links
     → IsBefore (2 ^ 64) (length slots) (home_of (length slots)) (id_at (ids_of stamp slots)) (slice_index links) id node → row_at stamp id slots (slice_index links node) ≡ false
     → IsPlaceOf stamp id slots None
-nowhere stamp id slots links node some h before away = no_place stamp id slots (λ place. false_from_ne_true (row_at stamp id slots place) (λ e.
-    let behind = place_behind (2 ^ 64) (length slots) (home_of (length slots)) (id_at (ids_of stamp slots)) (slice_index links) id node place h.linked (home_inside (length slots) id some) before
+nowhere stamp id slots links node some h before away = has_nowhere stamp id slots (λ place l. false_from_ne_true (row_at stamp id slots place) (λ e.
+    let behind = place_behind (2 ^ 64) (length slots) (home_of (length slots)) (id_at (ids_of stamp slots)) (slice_index links) id node place h.linked (omega arith) before
     (row_shown stamp id slots place e) in
     true≢false (sym (shows_row stamp id slots (slice_index links node) behind) ∙ away)))
 
@@ -159,16 +155,13 @@ links_added stamp id slots links place node onward h known room empty absent bef
       long = length-set (set links place onward) node place ∙ length-set links place onward ∙ h.long;
       linked =
           added (2 ^ 64) (length slots) (home_of (length slots)) (id_at ids) (id_at (set ids place (Some id))) (slice_index links) (slice_index (set (set links place onward) node place)) id place node
-          known (within_at stamp slots) h.linked (home_inside (length slots) id (omega arith)) before room empty
+          known (within_at stamp slots) h.linked (omega arith) before room empty
           (λ p at. true≢false (sym (has_row_at stamp id slots p (shows_row stamp id slots p at)) ∙ absent))
           (id_at-here ids place (Some id) (omega arith)) (id_at-there ids place (Some id))
           (get_or-set_same (set links place onward) node place 0 (let kept = length-set links place onward in omega arith))
-          (get_or-set_other (set links place onward) node place place 0 (λ (e : place ≡ node). apart (sym e)) ∙ get_or-set_same links place onward 0 (omega arith) ∙ is)
+          (get_or-set_other (set links place onward) node place place 0 (λ (e : place ≡ node). let way = before.way.is in grind (arith)) ∙ get_or-set_same links place onward 0 (omega arith) ∙ is)
           (λ n other off. get_or-set_other (set links place onward) node n place 0 other ∙ get_or-set_other links place n onward 0 off);
     }
-  where
-    apart : node ≡ place → ⊥
-    apart e = let way = before.way.is in grind (arith)
 
 -- A row is removed.
 pub links_removed : (stamp id : ℕ) (slots : List (Option Version)) (links : List ℕ) (place node onward : ℕ) → AreLinks (length slots) (ids_of stamp slots) links
@@ -181,12 +174,11 @@ links_removed stamp id slots links place node onward h known shows before inside
     let there = row_shown stamp id slots place shows in
     let room = within_at stamp slots place id there in
     let size = h.size in
-    let some : 0 < length slots = omega arith in
-    let behind = place_behind (2 ^ 64) (length slots) (home_of (length slots)) (id_at ids) (slice_index links) id node place h.linked (home_inside (length slots) id some) before there in
+    let behind = place_behind (2 ^ 64) (length slots) (home_of (length slots)) (id_at ids) (slice_index links) id node place h.linked (omega arith) before there in
     record {
       size = length-set ids place None ∙ h.size;
       long = length-set links node onward ∙ h.long;
       linked = removed (2 ^ 64) (length slots) (home_of (length slots)) (id_at ids) (id_at (set ids place None)) (slice_index links) (slice_index (set links node onward)) id place node
-          known (within_at stamp slots) h.linked (home_inside (length slots) id some) before there (known.once (slice_index links node) place id behind there)
+          known (within_at stamp slots) h.linked (omega arith) before there (known.once (slice_index links node) place id behind there)
           (id_at-here ids place None (omega arith)) (id_at-there ids place None) (get_or-set_same links node onward 0 inside ∙ is) (λ n other. get_or-set_other links node n onward 0 other);
     }

@@ -32,16 +32,12 @@ pub moved_place : (stamp later id : ℕ) (slots moved : List (Option Version)) (
 moved_place stamp later id slots moved None same h = has_nowhere later id moved (λ k l. false_from_ne_true (row_at later id moved k) (λ r. true≢false (sym (has_row_at stamp id slots k (sym (same k) ∙ r)) ∙ h)))
 moved_place stamp later id slots moved (Some place) same h = same place ∙ h
 
--- no slot shows an id's row
-pub no_place : (stamp id : ℕ) (slots : List (Option Version)) → ((k : ℕ) → row_at stamp id slots k ≡ false) → IsPlaceOf stamp id slots None
-no_place stamp id slots h = has_nowhere stamp id slots (λ k l. h k)
-
 -- The place of each id after a commit that ends rows: ..
 pub closed_place : (next now id : ℕ) (ids : List ℕ) (slots : List (Option Version)) (place : Option ℕ) → AllByRecursion (IsWithin next now) slots → among ids id ≡ false → IsPlaceOf now id slots place → IsPlaceOf (suc now) id (map (close ids (suc now)) slots) place
 closed_place next now id ids slots place h out = moved_place now (suc now) id slots (map (close ids (suc now)) slots) place (λ k. row_at-close next now id ids slots k h out)
 
 pub ended_place : (next now id : ℕ) (ids : List ℕ) (slots : List (Option Version)) → AllByRecursion (IsWithin next now) slots → among ids id ≡ true → IsPlaceOf (suc now) id (map (close ids (suc now)) slots) None
-ended_place next now id ids slots h out = no_place (suc now) id (map (close ids (suc now)) slots) (λ k. row_at-ended next now id ids slots k h out)
+ended_place next now id ids slots h out = has_nowhere (suc now) id (map (close ids (suc now)) slots) (λ k l. row_at-ended next now id ids slots k h out)
 
 -- .. and that begins one at a free place.
 pub other_place : (made id : ℕ) (fresh : Entry) (ns : List ℕ) (slots : List (Option Version)) (at : ℕ) (place : Option ℕ) → is_free (made ∷ ns) slots at ≡ true → eqb fresh.id id ≡ false → IsPlaceOf made id slots place → IsPlaceOf made id (set slots at (new_version made fresh)) place

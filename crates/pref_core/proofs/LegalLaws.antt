@@ -1,7 +1,8 @@
 -- The test of an op at slots is legality in the state that they stand for.
-use Rattle.pref_core.proofs.Common.{◌≡◌, ℕ, Bool, true, false, cond, List, length, Option, Some, None, Ok, Err, Result, is_some, refl, sym, ◌∙◌, Version, Call, CoreFault, Op, State, after}
+use Rattle.pref_core.proofs.Common.{◌≡◌, ℕ, Bool, true, false, cond, List, length, Option, Some, None, Ok, Err, Result, is_some, sym, ◌∙◌, Version, Call, CoreFault, Op, State, after}
 use Rattle.pref_core.proofs.Common.{Contents, StandsFor, IsNext, IsLegal, is_next, slots_after, stepped, applied, Plans, PlansIn, AppliesIn, arith, ◌&&◌, and_parts, false_from_ne_true}
 use Rattle.pref_core.proofs.OutcomeLaws.{same_calls, same_refusal, same_outcome_at, IsAllowed-from, stepped_stands}
+use Rattle.pref_core.proofs.StandsForLaws.{some_is}
 
 pub is_next-from : (contents : Contents) (state : State) (op : Op) → StandsFor contents state → IsNext (length contents.slots) state op → is_next contents op ≡ true
 is_next-from contents state op h next = grind (arith, same_refusal, same_calls, same_outcome_at)
@@ -10,14 +11,10 @@ pub IsNext-from : (contents : Contents) (state : State) (op : Op) → StandsFor 
 IsNext-from contents state op h next = grind (arith, IsAllowed-from, same_refusal, same_calls, same_outcome_at)
 
 pub applied_stands : (contents : Contents) (state : State) (op : Op) → StandsFor contents state → IsLegal state contents op → StandsFor (applied contents op) (after (length contents.slots) state op.client op.call)
-applied_stands contents state op h legal = go (slots_after contents op) refl legal.fits
-  where
-    next : is_next contents op ≡ true
-    next = is_next-from contents state op h legal.next
-
-    go : (o : Option (List (Option Version))) → slots_after contents op ≡ o → is_some o ≡ true → StandsFor (applied contents op) (after (length contents.slots) state op.client op.call)
-    go None e s = absurd (cc)
-    go (Some slots) e s = rw (next, e) (stepped_stands contents state op slots h next e)
+applied_stands contents state op h legal =
+    let next : is_next contents op ≡ true = is_next-from contents state op h legal.next in
+    let slots = some_is (slots_after contents op) legal.fits in
+    rw (next, slots.1) (stepped_stands contents state op slots.0 h next slots.1)
 
 -- an op whose test fails changes nothing
 pub applied_nothing : (contents : Contents) (op : Op) → (is_next contents op && is_some (slots_after contents op)) ≡ false → applied contents op ≡ contents

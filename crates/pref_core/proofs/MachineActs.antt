@@ -1,8 +1,8 @@
 -- Each part of a machine does its act.
-use Rattle.pref_core.proofs.Common.{◌≡◌, ℕ, ◌&&◌, true, false, List, Option, Some, None, Err, Result, IfErr, ap, refl, sym, ◌∙◌, subst, Call, Abandoned, Ok, length, option_map, Snapshot, Open, snapshot, state_of, begun_after, Queries, begins_query, finishes, abandons, call_of_act, called, Contents, with_seat, arith}
+use Rattle.pref_core.proofs.Common.{◌≡◌, ℕ, ◌&&◌, true, false, List, Option, Some, None, Result, IfErr, ap, refl, ◌∙◌, Call, Abandoned, Ok, length, option_map, Snapshot, Open, snapshot, state_of, begun_after, Queries, begins_query, finishes, abandons, call_of_act, called, Contents, with_seat, arith}
 use Rattle.std.specs.Result.{result_and}
-use Rattle.pref_core.proofs.Common.{Begin, Finish, Abandon, Op, CoreFault, Act, ActScan, Event, Reply, Left, is_change, succeeds, seat, System, Step, IsIndexOf, applied, IsPlan, Scan, Running}
-use Rattle.pref_core.proofs.Common.{StandsForQuery, StandsForSystem, Returns, Does, as_reply, without_event, Steps, IsInOrder, NextIsNewAt, ScansAt, is_begin}
+use Rattle.pref_core.proofs.Common.{Begin, Finish, Abandon, Op, CoreFault, Act, ActScan, Event, Reply, Left, is_change, succeeds, seat, IsIndexOf, applied, IsPlan, Scan, Running}
+use Rattle.pref_core.proofs.Common.{StandsForQuery, Does, as_reply, without_event, Steps, IsInOrder, NextIsNewAt, ScansAt, is_begin}
 use Rattle.pref_core.specs.declared.event.StepFault.{StepFault}
 use Rattle.pref_core.specs.Step.{query_of}
 use Rattle.pref_core.proofs.IndexLaws.{indexed_still}
@@ -11,11 +11,8 @@ use Rattle.pref_core.proofs.ChangeReplies.{own_plan, running_of}
 use Rattle.pref_core.proofs.ScanReplies.{next_is_new_at, scan_returns}
 
 -- What is left stands for a system again.
-in_order_returned : (before after : Running) (system : System) (right : Step) (act : Act) (result : Result Reply CoreFault) (index : List (ℕ × ℕ)) → StandsForSystem before system → Returns before right act result after → IsIndexOf after.contents index → IsInOrder after index
-in_order_returned before after system right act result index h says is = grind (arith)
-
 pub in_order_after : (before after : Running) (old index : List (ℕ × ℕ)) (client : ℕ) (act : Act) (result : Result Reply CoreFault) → IsInOrder before old → Does before client act result after → IsIndexOf after.contents index → IsInOrder after index
-in_order_after before after old index client act result h does is = in_order_returned before after h.system _ act result index h.stands (does.returns h.system h.stands) is
+in_order_after before after old index client act result h does is = grind (arith, does.returns h.system h.stands)
 
 -- the same after a planned change
 pub in_order_changed : (old : Running) (index new : List (ℕ × ℕ)) (client : ℕ) (call : Call) (op : Op) → is_change call ≡ true → IsPlan old.contents client call op → IsInOrder old index → IsIndexOf (applied old.contents op) new
@@ -59,8 +56,7 @@ steps_does before after event act returned result is does alike back = grind (ar
 -- What a call returns with a value, where its change is made.
 pub valued : {A : Type 0} (before : Running) (client : ℕ) (act : Act) (kind : A → Reply) (value : A) (made : Result (Unit {0}) CoreFault) (result : Result A CoreFault) (after : Running) → result ≡ result_and made (Ok value)
     → Does before client act (as_reply (λ _. kind value) made) after → Does before client act (as_reply kind result) after
-valued before client act kind value (Ok made) result after is does = subst (λ r. Does before client act (as_reply kind r) after) (sym is) does
-valued before client act kind value (Err fault) result after is does = subst (λ r. Does before client act (as_reply kind r) after) (sym is) does
+valued before client act kind value made result after is does = grind (arith)
 
 -- A scan.
 pub scan_does : (old : Running) (client : ℕ) (result : Result ℕ CoreFault) (scans placed : List (Option Scan)) → placed ≡ scans → ScansAt (seat client old.scans) old.contents.slots client old.scans result scans

@@ -1,18 +1,15 @@
 -- As many slots are in use as there are versions that are needed, fewer are needed where rows end alone, and so they stay within the capacity.
 use Rattle.pref_core.proofs.Common.{map-append, ◌≡◌, ◌≤◌, ℕ, Bool, true, false, ◌&&◌, ◌||◌, List, [], ◌∷◌, ◌++◌, filter, length, Option, Some, None, is_some, refl, sym, ap, ap₂, ◌∙◌, cons_option, list_any, AllZip, list_any-IsPermutation}
 use Rattle.pref_core.proofs.Common.{IsPermutation-map, length-filter, eq-eqb, Version, Caller, Line, Key, same_key, holds_key, keys, different, State, Client, Snapshot, found_tables, needed, Contents, StandsFor, StandsForClient, Shows}
-use Rattle.pref_core.proofs.Common.{ShowsBegin, seen, visible, is_needed, begins, stamps, AreDifferent, used, list_any-append, arith, AllByRecursion, and_parts, eqb, eqb-true, or_parts, without, Change, Remove, begun_by, begins_any}
+use Rattle.pref_core.proofs.Common.{ShowsBegin, seen, visible, is_needed, begins, stamps, AreDifferent, used, list_any-append, arith, AllByRecursion, and_parts, eqb-true, or_parts, without, Change, Remove, begun_by, begins_any}
 use Rattle.pref_core.proofs.Common.{EndsNeedNoMore, suc, slice_get, slice_set, or_cases, or_left, or_right, count_by-le-length, Call, is_change, outcome, succeeds, committed, counted, after, NeededFits, NeededFitsSlots}
 use Rattle.std.proofs.lemmas.Map.Made.{length-from_same_keys, length-le_from_is_member}
 use Rattle.std.specs.Cmp.{IsEquivalence}
 use Rattle.std.specs.List.{IsDistinct}
 use Rattle.pref_core.proofs.SlotKeys.{slot_keys, same_key_comm}
 
-same_key_congr : (a b c : Key) → same_key a b ≡ true → same_key a c ≡ same_key b c
-same_key_congr a b c h = let p = and_parts (eqb a.id b.id) (eqb a.made b.made) h in ap₂ (λ id made. eqb id c.id && eqb made c.made) (eqb-true a.id b.id p.0) (eqb-true a.made b.made p.1)
-
 key_laws : IsEquivalence same_key
-key_laws = record { refl = λ a. rw (eq-eqb a.id a.id refl, eq-eqb a.made a.made refl) refl; symm = same_key_comm; congr = same_key_congr }
+key_laws = record { refl = λ a. rw (eq-eqb a.id a.id refl, eq-eqb a.made a.made refl) refl; symm = same_key_comm; congr = λ a b c h. grind (arith, and_parts, eqb-true) }
 
 apart_from : (x : Key) (ks : List Key) → holds_key ks x ≡ false → AllByRecursion (λ k. same_key x k ≡ false) ks
 apart_from x [] h = tt
@@ -43,8 +40,7 @@ has_key key (Some version) = same_key key (record { id = version.id; made = vers
 holds_key-visible : (stamp : ℕ) (key : Key) (slots : List (Option Version)) → holds_key (keys (visible stamp slots)) key ≡ list_any (λ slot. is_some (seen stamp slot) && has_key key slot) slots
 unfolding has_key
 holds_key-visible stamp key [] = refl
-holds_key-visible stamp key (None ∷ slots) = holds_key-visible stamp key slots
-holds_key-visible stamp key (Some version ∷ slots) = grind (arith, holds_key-visible stamp key slots)
+holds_key-visible stamp key (slot ∷ slots) = grind (arith, holds_key-visible stamp key slots)
 
 holds_key-needed : (ns : List ℕ) (key : Key) (slots : List (Option Version)) → holds_key (slot_keys (filter (is_needed ns) slots)) key ≡ list_any (λ slot. is_needed ns slot && has_key key slot) slots
 unfolding has_key
@@ -52,12 +48,9 @@ holds_key-needed ns key [] = refl
 holds_key-needed ns key (slot ∷ slots) = grind (arith, holds_key-needed ns key slots)
 
 -- needed at the first stamp or at one of the others
-shared_or : (p q r a b : Bool) → (((p || q) && r) || (a || b)) ≡ (((p && r) || a) || ((q && r) || b))
-shared_or p q r a b = grind (arith)
-
 list_any-shared : {X : Type 0} (p q r : X → Bool) (xs : List X) → list_any (λ x. (p x || q x) && r x) xs ≡ (list_any (λ x. p x && r x) xs || list_any (λ x. q x && r x) xs)
 list_any-shared p q r [] = refl
-list_any-shared p q r (x ∷ xs) = ap (λ b. ((p x || q x) && r x) || b) (list_any-shared p q r xs) ∙ shared_or (p x) (q x) (r x) _ _
+list_any-shared p q r (x ∷ xs) = grind (arith, list_any-shared p q r xs)
 
 list_any-none : {X : Type 0} (r : X → Bool) (xs : List X) → list_any (λ x. false && r x) xs ≡ false
 list_any-none r [] = refl
@@ -124,16 +117,12 @@ held_without : (ids : List ℕ) (table : List Line) (key : Key) → holds_key (k
 held_without ids [] key h = h
 held_without ids (line ∷ rest) key h = grind (arith, held_without ids rest key)
 
--- where rows end and none begins
-without_needs_no_more : (ids : List ℕ) (table found : List Line) → length (different (keys (without ids table ++ found))) ≤ length (different (keys (table ++ found)))
-without_needs_no_more ids table found = grind (arith, fewer, holds_key-keys-append, held_without)
-
 none_begun : (next_id : ℕ) (changes : List Change) → begins_any changes ≡ false → begun_by next_id changes ≡ []
 none_begun next_id (Remove id ∷ rest) h = none_begun next_id rest h
 none_begun next_id changes h = grind (arith)
 
 pub ends_need_no_more : EndsNeedNoMore
-ends_need_no_more state call h = grind (arith, none_begun, without_needs_no_more)
+ends_need_no_more state call h = grind (arith, none_begun, fewer, holds_key-keys-append, held_without)
 
 holds : Key → List Line → Bool
 holds key table = holds_key (keys table) key
@@ -166,24 +155,13 @@ needed_counted : (table : List Line) (state : State) (client : ℕ) (call : Call
 unfolding holds
 needed_counted table state client call next_id commits quiet = grind (arith, fewer, holds_key-keys-append, or_left, found_counted, or_cases)
 
-abbrev noted : State → ℕ → Call → State
-noted state client call = record { table = state.table; next_id = state.next_id; commits = state.commits; clients = counted state client call }
-
-noted_fits : (capacity : ℕ) (state : State) (client : ℕ) (call : Call) → length (needed state) ≤ capacity → length (needed (noted state client call)) ≤ capacity
-noted_fits capacity state client call fits = let fewer_now = needed_counted state.table state client call state.next_id state.commits (λ q. refl) in omega arith
-
 -- a change that succeeds leaves what is within the capacity: where it begins no row no more is needed
 change_fits : (capacity : ℕ) (state : State) (call : Call) → is_change call ≡ true → succeeds (outcome capacity state call) ≡ true → length (needed state) ≤ capacity → length (needed (committed call state)) ≤ capacity
 change_fits capacity state call c s fits = grind (arith, ends_need_no_more)
 
 after_fits : (capacity : ℕ) (state : State) (client : ℕ) (call : Call) → length (needed state) ≤ capacity → length (needed (after capacity state client call)) ≤ capacity
 after_fits capacity state client call fits =
-    grind (
-      arith,
-      change_fits capacity state call,
-      noted_fits capacity state client call,
-      needed_counted (committed call state).table state client call (committed call state).next_id (committed call state).commits,
-    )
+    grind (arith, change_fits capacity state call, needed_counted state.table state client call state.next_id state.commits (λ q. refl), needed_counted (committed call state).table state client call (committed call state).next_id (committed call state).commits)
 
 pub needed_fits : NeededFits
 needed_fits capacity state [] fits legal = fits

@@ -1,7 +1,7 @@
 -- The order of places as a store is opened.
-use Rattle.pref_core.proofs.Common.{◌≡◌, ℕ, ◌+◌, ◌-◌, ◌<◌, ◌≤◌, List, ◌∷◌, ◌++◌, map, length, get_or, replicate, refl, sym, ap, ap₂, ◌∙◌, arith, count_by, range_with_len, length-map, length-append}
+use Rattle.pref_core.proofs.Common.{◌≡◌, ℕ, ◌+◌, ◌-◌, ◌<◌, ◌≤◌, List, ◌∷◌, ◌++◌, map, length, get_or, replicate, refl, sym, ap, ap₂, ◌∙◌, arith, range_with_len, length-map, length-append}
 use Rattle.pref_core.proofs.Common.{length-replicate, same_lists, get_or-map, get_or-map-range_with_len, length-map-range_with_len, sum_by-append, lt-ltb, le-ltb, SlotUse, Free, Live, use_at}
-use Rattle.pref_core.proofs.Common.{is_free_use, IsInverse, IsArranged, rotated, sum_by-replicate, get_or-append_right, get_or-replicate}
+use Rattle.pref_core.proofs.Common.{IsInverse, IsArranged, rotated, sum_by-replicate, get_or-append_right, get_or-replicate}
 use Rattle.std.proofs.Math.ListN.{get_or-append}
 
 abbrev all : ℕ → ℕ → List ℕ
@@ -16,10 +16,6 @@ low capacity first i l = rw (lt-ltb i (capacity - first) l) refl
 pub high : (capacity first i : ℕ) → capacity - first ≤ i → rotated capacity first i ≡ i - (capacity - first)
 high capacity first i l = rw (le-ltb i (capacity - first) l) refl
 
--- what is below the capacity, and turned back
-back : (capacity first i : ℕ) → first ≤ capacity → i < capacity → (rotated capacity first i < capacity) × (rotated capacity (capacity - first) (rotated capacity first i) ≡ i)
-back capacity first i f l = grind (arith)
-
 long : (capacity first : ℕ) → length (all capacity first) ≡ capacity
 long capacity first = length-map-range_with_len (rotated capacity first) 0 capacity
 
@@ -29,12 +25,6 @@ inverse capacity rows r = grind (arith, long, at)
 -- the bounds: no version has ended
 abbrev pub opened : ℕ → ℕ → List ℕ
 opened capacity free = free ∷ replicate 9 capacity
-
-opened_less : (capacity free i : ℕ) → free ≤ capacity → i < 10 → get_or (opened capacity free) i 0 ≤ capacity
-opened_less capacity free i h l = grind (arith)
-
-opened_ascend : (capacity free i j : ℕ) → free ≤ capacity → i ≤ j → j < 10 → get_or (opened capacity free) i 0 ≤ get_or (opened capacity free) j 0
-opened_ascend capacity free i j h le l = grind (arith)
 
 -- the uses, pointwise and as a list
 slot_use : (capacity rows p : ℕ) → rows ≤ capacity → p < capacity → (d : SlotUse)
@@ -58,10 +48,7 @@ turned_arranged capacity rows few r =
       inverse = inverse capacity rows r;
       few = omega arith;
       bounded = refl;
-      ascending = λ i j le l. opened_ascend capacity (capacity - rows) i j (omega arith) le l;
-      inside = λ i l. let e = opened_less capacity (capacity - rows) i (omega arith) l in omega arith;
-      counted = ap (count_by is_free_use) (turned_uses capacity rows r) ∙ counted;
+      ascending = λ i j le l. grind (arith);
+      inside = λ i l. grind (arith);
+      counted = grind (arith, turned_uses, sum_by-append, sum_by-replicate);
     }
-  where
-    counted : count_by is_free_use (replicate rows Live ++ replicate (capacity - rows) Free) ≡ capacity - rows
-    counted = grind (arith, sum_by-append, sum_by-replicate)

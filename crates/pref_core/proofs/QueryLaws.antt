@@ -1,8 +1,8 @@
 -- A query that follows its table: no id comes twice, a scan keeps on, and the end is the table's answer; so it is as long as the query lives.
-use Rattle.pref_core.proofs.Common.{◌≡◌, ℕ, zero, suc, ◌+◌, ◌*◌, ◌≤◌, Bool, false, cond, eqb, ◌==◌, List, [], ◌∷◌, ◌++◌, length, take, drop, Option, Some, filter, refl, sym, ap, ◌∙◌, subst, arith, AllByRecursion, count_by, IsPermutation}
+use Rattle.pref_core.proofs.Common.{◌≡◌, ℕ, zero, suc, ◌+◌, ◌*◌, ◌≤◌, false, cond, eqb, ◌==◌, List, [], ◌∷◌, ◌++◌, length, take, drop, Option, Some, filter, refl, sym, ap, ◌∙◌, subst, arith, AllByRecursion, count_by, IsPermutation}
 use Rattle.pref_core.proofs.Common.{map-append, take_all, take-append-drop, filter_map-append, sum_by-cons, IsPermutation-map, sum_by-IsPermutation, Entry, Ranked, answer_of, Question, Version, Limits, AreAllowed, Line, IsOrdered, entries}
 use Rattle.pref_core.proofs.Common.{Contents, Shows, seen, visible, block_of, caller_begun, ran, Scan, begin, levels_for, next_block, NextIsNew, IsScanned, ends_query, Op, first_blocks, BlocksAreTheSlots, Open, one_less, Follows, take-add}
-use Rattle.pref_core.proofs.Common.{Ok, Err, Begin, State, after, StandsFor, IsPlan, IsLegal, applied}
+use Rattle.pref_core.proofs.Common.{Ok, Err, Begin, State, after, StandsFor, IsPlan, applied}
 use Rattle.pref_sky.specs.Levels.{HaveDifferentIds}
 use Rattle.pref_sky.proofs.ListLaws.{same_if_permuted}
 use Rattle.pref_sky.proofs.LevelLaws.{levels_of_none, held_differ, answer_of_same, first_differ}
@@ -15,10 +15,7 @@ use Rattle.pref_core.proofs.LegalLaws.{is_next-from, applied_stands, plans_in}
 -- how often an id stands among the entries
 count_id : (id : ℕ) (table : List Line) → count_by (λ (e : Entry). e.id == id) (entries table) ≡ length (filter (λ (line : Line). eqb line.id id) table)
 count_id id [] = refl
-count_id id (line ∷ rest) = sum_by-cons (λ (e : Entry). cond (e.id == id) 1 0) (record { id = line.id; row = line.row }) (entries rest) ∙ ap (λ n. cond (eqb line.id id) 1 0 + n) (count_id id rest) ∙ one (eqb line.id id) (filter (λ (l : Line). eqb l.id id) rest)
-  where
-    one : (b : Bool) (l : List Line) → cond {A = ℕ} b 1 0 + length l ≡ length (cond b (line ∷ l) l)
-    one b l = grind (arith)
+count_id id (line ∷ rest) = grind (arith, count_id id rest, sum_by-cons (λ (e : Entry). cond {A = ℕ} (e.id == id) 1 0) (record { id = line.id; row = line.row }) (entries rest))
 
 pub table_differs : (table : List Line) → IsOrdered table → HaveDifferentIds (entries table)
 table_differs table ordered = record { once = λ id. subst (λ n. n ≤ 1) (sym (count_id id table)) (one_line id table ordered) }
@@ -32,22 +29,18 @@ shown_differs slots stamp table shows = differs_along _ _ (IsPermutation-map (λ
 entries_append : (stamp : ℕ) (xs ys : List (Option Version)) → entries (visible stamp (xs ++ ys)) ≡ entries (visible stamp xs) ++ entries (visible stamp ys)
 entries_append stamp xs ys = ap entries (filter_map-append (seen stamp) xs ys) ∙ map-append (λ (l : Line). record { id = l.id; row = l.row }) (visible stamp xs) (visible stamp ys)
 
-taken_differs : (slots : List (Option Version)) (stamp n : ℕ) (table : List Line) → Shows slots stamp table → HaveDifferentIds (entries (visible stamp (take n slots)))
-taken_differs slots stamp n table shows = grind (arith, first_differ, take-append-drop n slots, entries_append stamp (take n slots) (drop n slots), shown_differs slots stamp table shows)
-
-one_more : (d n : ℕ) → d * n + n ≡ (d + 1) * n
-one_more d n = omega arith
-
 -- what was scanned and the next block are what one block more shows
 with_next : (scan : Scan) (slots : List (Option Version)) → entries (visible scan.stamp (take (scan.done * scan.size) slots)) ++ next_block scan slots ≡ entries (visible scan.stamp (take ((scan.done + 1) * scan.size) slots))
 with_next scan slots =
+    let more : scan.done * scan.size + scan.size ≡ (scan.done + 1) * scan.size = omega arith in
     sym (entries_append scan.stamp (take (scan.done * scan.size) slots) (block_of scan.done scan.size slots))
     ∙ ap (λ l. entries (visible scan.stamp l)) (sym (take-add (scan.done * scan.size) scan.size slots))
-    ∙ ap (λ n. entries (visible scan.stamp (take n slots))) (one_more scan.done scan.size)
+    ∙ ap (λ n. entries (visible scan.stamp (take n slots))) more
 
 -- no id of the next block came before
 next_differs : (scan : Scan) (slots : List (Option Version)) (table : List Line) → Shows slots scan.stamp table → HaveDifferentIds (entries (visible scan.stamp (take (scan.done * scan.size) slots)) ++ next_block scan slots)
-next_differs scan slots table shows = subst HaveDifferentIds (sym (with_next scan slots)) (taken_differs slots scan.stamp ((scan.done + 1) * scan.size) table shows)
+next_differs scan slots table shows =
+    subst HaveDifferentIds (sym (with_next scan slots)) (grind (arith, first_differ, take-append-drop ((scan.done + 1) * scan.size) slots, entries_append scan.stamp (take ((scan.done + 1) * scan.size) slots) (drop ((scan.done + 1) * scan.size) slots), shown_differs slots scan.stamp table shows))
 
 -- Where the slots show a table at its begin, the next block is new to it, ..
 pub next_is_new_on_its_way : (slots : List (Option Version)) (scan : Scan) (table : List Line) → Shows slots scan.stamp table → IsOnItsWay slots scan → NextIsNew scan slots
@@ -115,10 +108,6 @@ record IsOpen (contents : Contents) (client : ℕ) (ask : Question) (table : Lis
   shows : Shows contents.slots scan.stamp table
   way : IsOnItsWay contents.slots scan
 
--- the stamp that is kept of a client that begins a query
-begin_kept : (contents : Contents) (state : State) (op : Op) → StandsFor contents state → IsLegal state contents op → op.call ≡ Begin → caller_begun (applied contents op) op.client ≡ Some contents.stamp
-begin_kept contents state op h legal what = grind (arith, is_next-from, begun_at, begun_own)
-
 open_begun : (limits : Limits) (first : Contents) (state : State) (client : ℕ) (ask : Question) (op : Op) → AreAllowed limits → length first.slots ≡ limits.capacity → StandsFor first state → IsPlan first client Begin op
     → IsOpen (applied first op) client ask state.table (begin ask first.stamp limits)
 open_begun limits first state client ask op allowed long h plan =
@@ -127,7 +116,7 @@ open_begun limits first state client ask op allowed long h plan =
     let still : (applied first op).stamp ≡ first.stamp = stands.stamp ∙ sym h.stamp in
     record {
       asks = refl;
-      at_begin = subst (λ n. caller_begun (applied first op) n ≡ Some first.stamp) plan.by (begin_kept first state op h legal plan.what);
+      at_begin = subst (λ n. caller_begun (applied first op) n ≡ Some first.stamp) plan.by (let what = plan.what in grind (arith, is_next-from, begun_at, begun_own));
       within = omega arith;
       shows = subst (λ n. Shows (applied first op).slots n state.table) still stands.table;
       way = begun_on_its_way limits (applied first op).slots ask first.stamp allowed (length-ran (op ∷ []) first ∙ long);
@@ -144,9 +133,6 @@ open_changed contents client ask table scan op h goes_on =
       way = way_stays contents.slots (applied contents op).slots scan (length-ran (op ∷ []) contents) lasts.shows h.way;
     }
 
-open_scanned : (contents : Contents) (client : ℕ) (ask : Question) (table : List Line) (scan new : Scan) → IsOpen contents client ask table scan → IsScanned scan contents.slots new → IsOpen contents client ask table new
-open_scanned contents client ask table scan new h is = grind (arith, scanned_on_its_way)
-
 open_while_it_lives : (limits : Limits) (first : Contents) (state : State) (client : ℕ) (ask : Question) (contents : Contents) (scan : Scan) → AreAllowed limits → length first.slots ≡ limits.capacity → StandsFor first state
     → LivesTo limits first client ask contents scan → IsOpen contents client ask state.table scan
 open_while_it_lives limits first state client ask contents scan allowed long h life = go life
@@ -154,7 +140,7 @@ open_while_it_lives limits first state client ask contents scan allowed long h l
     go : {c : Contents} {s : Scan} → LivesTo limits first client ask c s → IsOpen c client ask state.table s
     go (at_begin op plan) = open_begun limits first state client ask op allowed long h plan
     go (after_op c s op life goes_on) = open_changed c client ask state.table s op (go life) goes_on
-    go (after_scan c s new life is) = open_scanned c client ask state.table s new (go life) is
+    go (after_scan c s new life is) = let open_ = go life in grind (arith, scanned_on_its_way)
 
 pub next_block_is_new : NextBlockIsNew
 next_block_is_new limits first state client ask contents scan allowed long h life = grind (arith, open_while_it_lives limits first state client ask contents scan allowed long h life, next_is_new_on_its_way)

@@ -11,12 +11,9 @@ use Rattle.pref_core.proofs.ChosenSlots.{close_none}
 use Rattle.pref_core.proofs.StabilityLaws.{slice_get-set_same, slice_get-set_other}
 use Rattle.pref_core.proofs.SlotUseLaws.{row_version}
 
--- A row that stands in its slot still does once another one was replaced.
-stands_still : (stamp id place : ℕ) (row : Row) (slots : List (Option Version)) (other at : ℕ) → row_at stamp id slots place ≡ true → row_at stamp other slots at ≡ true → row_at stamp other (set slots place (new_version stamp (record { id = id; row = row }))) at ≡ true
-stands_still stamp id place row slots other at here there = grind (arith, slice_get-set_same, slice_get-set_other)
-
+-- Rows that stand in their slots still do once another one was replaced.
 pub keeps_still : (stamp id place : ℕ) (row : Row) (slots : List (Option Version)) (changes : List Change) (places : List ℕ) → row_at stamp id slots place ≡ true → KeepSlots stamp slots changes places → KeepSlots stamp (set slots place (new_version stamp (record { id = id; row = row }))) changes places
-keeps_still stamp id place row slots (Set other next ∷ changes) (at ∷ places) here keep = (stands_still stamp id place row slots other at here keep.0, keeps_still stamp id place row slots changes places here keep.1)
+keeps_still stamp id place row slots (Set other next ∷ changes) (at ∷ places) here keep = (grind (arith, slice_get-set_same, slice_get-set_other), keeps_still stamp id place row slots changes places here keep.1)
 keeps_still stamp id place row slots changes places here keep = grind (arith)
 
 -- One row is replaced and the others end, in either order.

@@ -1,18 +1,13 @@
 -- One event more, and its reply.
-use Rattle.pref_core.proofs.Common.{◌≡◌, suc, ◌<◌, nat_lt, MatchResult, List, [], ◌∷◌, ◌++◌, length, get_or, drop, take, true, false, Ok, Err, Result, is_err, lt-ltb, refl, sym, ap, ◌∙◌, subst, arith}
+use Rattle.pref_core.proofs.Common.{◌≡◌, suc, ◌<◌, nat_lt, List, [], ◌∷◌, ◌++◌, length, get_or, drop, take, true, false, Ok, Err, Result, is_err, lt-ltb, refl, sym, ap, ◌∙◌, arith}
 use Rattle.pref_core.proofs.Common.{append_assoc, length_push, take_all, drop-cons, Event, Reply, Refused, CoreFault, OutOfMemory, Limits, System, replies_from, step, Does, Replies, Running}
-use Rattle.pref_core.proofs.Common.{StandsForSystem, Steps, Returns, is_refusal, may_want_memory, without_event, AddedReply, AddsReply, reply_of}
+use Rattle.pref_core.proofs.Common.{StandsForSystem, Steps, without_event, AddedReply, AddsReply, reply_of}
 use Rattle.std.specs.declared.alloc.AllocError.{AllocError}
 use Rattle.pref_core.specs.declared.event.StepFault.{StepFault}
 
 -- What an act returns, as a reply.
-returned_replies : (before after : Running) (system : System) (event : Event) (returned : Result Reply CoreFault) → Returns before (step before.limits system event) event.act returned after
-    → MatchResult (reply_of returned) (λ reply. (reply ≡ (step before.limits system event).reply) × StandsForSystem after (step before.limits system event).next)
-    (λ _. (may_want_memory event.act ≡ true) × (is_refusal (step before.limits system event).reply ≡ false) × (after ≡ before))
-returned_replies before after system event returned says = grind (arith)
-
 pub does_replies : (before after : Running) (event : Event) (returned : Result Reply CoreFault) (result : Result Reply AllocError) → Does before event.client event.act returned after → result ≡ reply_of returned → Replies before event result after
-does_replies before after event returned result does is = subst (λ r. Replies before event r after) (sym is) (record { limits = does.limits; returns = λ system h. returned_replies before after system event returned (does.returns system h) })
+does_replies before after event returned result does is = grind (arith)
 
 pub steps_replies : (before after : Running) (event : Event) (stepped : Result Reply StepFault) (result : Result Reply AllocError) → Steps before event stepped after → result ≡ reply_of (without_event stepped) → Replies before event result after
 steps_replies before after event stepped result steps is = does_replies before after event (without_event stepped) result (record { limits = steps.limits; returns = steps.returns }) is

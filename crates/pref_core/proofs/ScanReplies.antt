@@ -1,5 +1,5 @@
 -- What a machine returns at each act is the system's reply: scans.
-use Rattle.pref_core.proofs.Common.{◌≡◌, ℕ, ◌<◌, true, false, nat_lt, List, Option, Some, None, Result, refl, arith, lt-ltb, le-ltb, CoreFault, ActScan, Left, seat, Open, Member, System, step, Scan}
+use Rattle.pref_core.proofs.Common.{◌≡◌, ℕ, ◌<◌, true, false, nat_lt, List, Option, Some, Result, refl, arith, lt-ltb, le-ltb, CoreFault, ActScan, Left, seat, Open, Member, System, step, Scan}
 use Rattle.pref_core.proofs.Common.{Running, Follows, StandsForSystem, Returns, as_reply, NextIsNewAt, ScansOne, ScansAt}
 use Rattle.pref_core.proofs.SeatLaws.{with_seat_self}
 use Rattle.pref_core.proofs.QueryLaws.{next_is_new, follows_scanned}
@@ -16,18 +16,6 @@ pub record IsAsking (running : Running) (system : System) (client : ℕ) (held :
 
 pub IsAsking-from : (running : Running) (system : System) (client : ℕ) (held : Scan) → StandsForSystem running system → seat client running.scans ≡ Some (Some held) → IsAsking running system client held
 IsAsking-from running system client held h at = grind (arith)
-
--- a client without a query
-pub record IsIdle (system : System) (client : ℕ) : Type 0 where
-  pub who : Member
-  pub at : seat client system.members ≡ Some who
-  pub is : who.query ≡ None
-
-pub IsIdle-from : (running : Running) (system : System) (client : ℕ) → StandsForSystem running system → seat client running.scans ≡ Some None → IsIdle system client
-IsIdle-from running system client h at = grind (arith)
-
-pub nobody_there : (running : Running) (system : System) (client : ℕ) → StandsForSystem running system → seat client running.scans ≡ None → seat client system.members ≡ None
-nobody_there running system client h at = grind (arith)
 
 -- The next block of a query shows nothing that it holds.
 pub next_is_new_at : (running : Running) (system : System) (client : ℕ) → StandsForSystem running system → NextIsNewAt (seat client running.scans) running.contents.slots
@@ -54,4 +42,4 @@ scan_one running system client held result scans h at says = grind (arith, some_
 pub scan_returns : (running : Running) (system : System) (client : ℕ) (result : Result ℕ CoreFault) (scans : List (Option Scan)) → StandsForSystem running system
     → ScansAt (seat client running.scans) running.contents.slots client running.scans result scans
     → Returns running (step running.limits system (record { client = client; act = ActScan })) ActScan (as_reply Left result) (running_of running.contents running.limits scans)
-scan_returns running system client result scans h = grind (arith, running_of, nobody_steps, nobody_there, IsIdle-from, scan_one)
+scan_returns running system client result scans h = grind (arith, running_of, nobody_steps, scan_one, h.members client)

@@ -1,18 +1,7 @@
 -- The order of places and its inverse, after a move, and which places are free by it.
-use Rattle.pref_core.proofs.Common.{◌≡◌, ◌≢◌, ℕ, zero, suc, ◌+◌, ◌-◌, ◌<◌, ◌≤◌, Bool, cond, nat_lt, List, [], ◌∷◌, map, length, get_or, set, Some, slice_get, refl, sym, ap, ◌∙◌, subst, arith, ⊎_elim, get_or-set_same, get_or-set_other}
-use Rattle.pref_core.proofs.Common.{count_by, length-map, length-set, same_lists, get_or-map, sum_by-set, slice_get_within, get_or_from_slice_get, cases_eq, le-ltb, ltb-true, SlotUse, Free, number_of, numbered, number_at, use_at}
+use Rattle.pref_core.proofs.Common.{◌≡◌, ◌≢◌, ℕ, zero, suc, ◌+◌, ◌-◌, ◌<◌, ◌≤◌, Bool, cond, nat_lt, List, [], ◌∷◌, map, length, get_or, set, Some, slice_get, refl, sym, ap, ◌∙◌, subst, arith, ⊎_elim, get_or-set_same, get_or-set_other, lt-ltb}
+use Rattle.pref_core.proofs.Common.{count_by, length-map, length-set, same_lists, get_or-map, sum_by-set, slice_get_within, get_or_from_slice_get, cases_eq, le-ltb, ltb-true, SlotUse, number_of, numbered, number_at, use_at}
 use Rattle.pref_core.proofs.Common.{is_free_use, IsInverse, IsArranged, moved_order, moved_positions, rules, true, false, eqb, take, None, slice_get-map, slice_get-get_or, eqb-true, or_cases, or_right, Ended, free_at, among}
-
--- Reads of a list after two writes.
-module _ (xs : List ℕ) (i j x y : ℕ) (li : i < length xs) (lj : j < length xs) where
-  second : get_or (set (set xs i x) j y) j 0 ≡ y
-  second = get_or-set_same (set xs i x) j y 0 (let n = length-set xs i x in omega arith)
-
-  first : i ≢ j → get_or (set (set xs i x) j y) i 0 ≡ x
-  first n = get_or-set_other (set xs i x) j i y 0 n ∙ get_or-set_same xs i x 0 li
-
-  neither : (k : ℕ) → k ≢ i → k ≢ j → get_or (set (set xs i x) j y) k 0 ≡ get_or xs k 0
-  neither k a b = get_or-set_other (set xs i x) j k y 0 b ∙ get_or-set_other xs i k x 0 a
 
 -- A place goes from its position, and another comes there.
 module _ (order positions : List ℕ) (place to : ℕ) (inv : IsInverse order positions) (lp : place < length order) (lt : to < length order) where
@@ -22,24 +11,11 @@ module _ (order positions : List ℕ) (place to : ℕ) (inv : IsInverse order po
   abbrev other : ℕ
   other = get_or order to 0
 
-  -- both positions of both places
-  lf : from < length order
-  lf = inv.within place lp
-
-  lo : other < length order
-  lo = inv.places to lt
-
-  from_at : get_or order from 0 ≡ place
-  from_at = inv.back place lp
-
-  other_at : get_or positions other 0 ≡ to
-  other_at = inv.there to lt
-
   same_place : from ≡ to → place ≡ other
-  same_place e = sym from_at ∙ ap (λ k. get_or order k 0) e
+  same_place e = sym (inv.back place lp) ∙ ap (λ k. get_or order k 0) e
 
   apart : (k : ℕ) → k < length order → k ≢ place → get_or positions k 0 ≢ from
-  apart k l n e = n (sym (inv.back k l) ∙ ap (λ x. get_or order x 0) e ∙ from_at)
+  apart k l n e = n (sym (inv.back k l) ∙ ap (λ x. get_or order x 0) e ∙ inv.back place lp)
 
   apart_other : (k : ℕ) → k < length order → k ≢ other → get_or positions k 0 ≢ to
   apart_other k l n e = n (sym (inv.back k l) ∙ ap (λ x. get_or order x 0) e)
@@ -56,32 +32,29 @@ module _ (order positions : List ℕ) (place to : ℕ) (inv : IsInverse order po
   pub length_positions : length new_positions ≡ length order
   length_positions = length-set (set positions place to) other from ∙ length-set positions place to ∙ inv.long
 
-  lq : (k : ℕ) → k < length order → k < length positions
-  lq k l = let e = inv.long in omega arith
-
   at_other : get_or new_positions other 0 ≡ from
-  at_other = second positions place other to from (lq place lp) (lq other lo)
+  at_other = grind (arith, get_or-set_same, length-set, inv.places to lt, inv.long)
 
   at_place : get_or new_positions place 0 ≡ to
-  at_place = grind (arith, at_other, first, lo)
+  at_place = grind (arith, at_other, get_or-set_same, get_or-set_other, length-set, inv.long)
 
   at_neither : (k : ℕ) → k ≢ place → k ≢ other → get_or new_positions k 0 ≡ get_or positions k 0
-  at_neither k a b = neither positions place other to from (lq place lp) (lq other lo) k a b
+  at_neither k a b = grind (arith, get_or-set_other)
 
   pub order_to : get_or new_order to 0 ≡ place
-  order_to = second order from to other place lf lt
+  order_to = grind (arith, get_or-set_same, length-set)
 
   pub order_from : get_or new_order from 0 ≡ other
-  order_from = grind (arith, order_to, first)
+  order_from = grind (arith, order_to, get_or-set_same, get_or-set_other, length-set, inv.within place lp)
 
   pub order_neither : (k : ℕ) → k ≢ from → k ≢ to → get_or new_order k 0 ≡ get_or order k 0
-  order_neither k a b = neither order from to other place lf lt k a b
+  order_neither k a b = grind (arith, get_or-set_other)
 
   pub position_goes : (Q : ℕ → ℕ → Type 0) → Q place to → Q other from → ((k : ℕ) → k < length order → k ≢ place → k ≢ other → Q k (get_or positions k 0)) → (k : ℕ) → k < length order → Q k (get_or new_positions k 0)
   position_goes Q a b c k l = grind (arith, at_place, at_other, at_neither)
 
   pub inverse_moved : IsInverse new_order new_positions
-  inverse_moved = grind (arith, length_positions, length_order, lo, at_place, at_other, at_neither, other_at, position_goes, lf, order_to, order_from, order_neither, apart, apart_other)
+  inverse_moved = grind (arith, length_positions, length_order, inv.places to lt, at_place, at_other, at_neither, inv.there to lt, position_goes, inv.within place lp, order_to, order_from, order_neither, apart, apart_other)
 
   -- the uses after a move that shifts a border past the position
   pub uses_moved : (bounds after : List ℕ) (slot_use : SlotUse) → use_at after to ≡ slot_use
@@ -95,7 +68,7 @@ module _ (order positions : List ℕ) (place to : ℕ) (inv : IsInverse order po
       others : (k : ℕ) → k < length order → k ≢ place → use_at after (get_or new_positions k 0) ≡ use_at bounds (get_or positions k 0)
       others = position_goes (λ k x. k ≢ place → use_at after x ≡ use_at bounds (get_or positions k 0))
           (λ n. absurd (n refl))
-          (λ n. there (λ e. n (sym (same_place e))) ∙ ap (use_at bounds) (sym other_at))
+          (λ n. there (λ e. n (sym (same_place e))) ∙ ap (use_at bounds) (sym (inv.there to lt)))
           (λ k l a b n. elsewhere (get_or positions k 0) (apart k l a) (apart_other k l b))
 
 -- Numbers of positions: past each bound before, ..
@@ -121,19 +94,10 @@ number_kept bounds k bound x e = grind (arith)
 pub number_numbered : (n : ℕ) → number_of (numbered n) ≡ n
 number_numbered n = grind (arith)
 
-pub use_number : (bounds : List ℕ) (x k : ℕ) → use_at bounds x ≡ numbered k → number_at bounds x ≡ k
-use_number bounds x k e = sym (number_numbered (number_at bounds x)) ∙ ap number_of e ∙ number_numbered k
-
 -- The free places are below the first bound.
 pub free_number : (bounds : List ℕ) (x : ℕ) → 0 < length bounds → is_free_use (use_at bounds x) ≡ nat_lt x (get_or bounds 0 0)
 free_number [] x l = absurd (omega arith)
 free_number (bound ∷ bounds) x l = grind (arith)
-
-pub use_free : (bounds : List ℕ) (x : ℕ) → 0 < length bounds → x < get_or bounds 0 0 → use_at bounds x ≡ Free
-use_free bounds x l h = ap numbered (number_is bounds x 0 l (λ j m. absurd (omega arith)) h)
-
-pub free_from : (bounds : List ℕ) (x : ℕ) → 0 < length bounds → use_at bounds x ≡ Free → x < get_or bounds 0 0
-free_from bounds x l h = ltb-true _ _ (sym (free_number bounds x l) ∙ ap is_free_use h)
 
 -- Bounds stay in their order where one goes no further than those beside it.
 ascending_set : (bounds : List ℕ) (k bound : ℕ) → length bounds ≡ 10 → k < 10 → ((i : ℕ) → i < k → get_or bounds i 0 ≤ bound) → ((j : ℕ) → k < j → j < 10 → bound ≤ get_or bounds j 0)
@@ -163,7 +127,7 @@ module _ (order positions bounds : List ℕ) (place : ℕ) (a : IsArranged order
   use_here old at = grind (arith, slice_get_within uses place old at, length-map positions (use_at bounds), get_or-map (use_at bounds) positions place 0 old, get_or_from_slice_get uses place old old at)
 
   pub number_here : (k : ℕ) → slice_get uses place ≡ Some (numbered k) → number_at bounds (get_or positions place 0) ≡ k
-  number_here k at = use_number bounds (get_or positions place 0) k (use_here (numbered k) at).1
+  number_here k at = grind (arith, use_here, number_numbered)
 
   pub bound_some : (k : ℕ) → k < 9 → slice_get uses place ≡ Some (numbered k) → 1 ≤ get_or bounds k 0
   bound_some k few at = grind (arith, number_here, number_below)
@@ -257,10 +221,10 @@ among_taken (suc count) (x ∷ order) (suc at) l m = or_right (eqb x (get_or ord
 among_taken count order at l m = grind (arith)
 
 pub free_listed : (order positions bounds : List ℕ) (p : ℕ) → IsArranged order positions bounds → among (take (get_or bounds 0 0) order) p ≡ true → free_at (map (use_at bounds) positions) p ≡ true
-free_listed order positions bounds p a h = grind (arith, taken_at (get_or bounds 0 0) order p h, slice_get-map (use_at bounds) positions p, slice_get-get_or, use_free)
+free_listed order positions bounds p a h = grind (arith, taken_at (get_or bounds 0 0) order p h, slice_get-map (use_at bounds) positions p, slice_get-get_or, free_number, lt-ltb)
 
 pub listed_free : (order positions bounds : List ℕ) (p : ℕ) → IsArranged order positions bounds → free_at (map (use_at bounds) positions) p ≡ true → among (take (get_or bounds 0 0) order) p ≡ true
-listed_free order positions bounds p a h = grind (arith, slice_get-map, free_from, slice_get_within, get_or_from_slice_get, among_taken)
+listed_free order positions bounds p a h = grind (arith, slice_get-map, free_number, ltb-true, slice_get_within, get_or_from_slice_get, among_taken)
 
 -- Whether a place is free, by its position.
 pub free_there : (positions bounds : List ℕ) (p : ℕ) → 0 < length bounds → free_at (map (use_at bounds) positions) p ≡ elim (slice_get positions p) as (λ x. Bool) [ None ↦ false | Some at ↦ nat_lt at (get_or bounds 0 0) ]

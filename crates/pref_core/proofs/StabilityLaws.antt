@@ -1,9 +1,9 @@
 -- What an open query was shown at its begin stays, though slots are used again.
-use Rattle.pref_core.proofs.Common.{map-set_same, set-set, get_or_from_slice_get, ◌≡◌, ℕ, zero, suc, ◌*◌, ◌<◌, ◌≤◌, Bool, true, false, ◌&&◌, cond, List, [], ◌∷◌, map, take, drop, Option, Some, None, slice_get}
+use Rattle.pref_core.proofs.Common.{map-set_same, set-set, get_or_from_slice_get, ◌≡◌, ℕ, zero, suc, ◌*◌, ◌<◌, ◌≤◌, Bool, true, false, ◌&&◌, cond, List, [], ◌∷◌, map, drop, Option, Some, None, slice_get}
 use Rattle.pref_core.proofs.Common.{slice_set, refl, sym, ap, ap₂, ◌∙◌, arith, AllByRecursion, filter_map, cons_option, take-map, drop-map, Version, Caller, Call, Op, Line, Entry, seat, with_seat}
 use Rattle.pref_core.proofs.Common.{is_change, ended, begun, succeeds, Contents, seen, visible, begins, stamps, caller_begun, block_of, new_version, close, is_free, filled, refusal_at, begin_after}
 use Rattle.pref_core.proofs.Common.{callers_after, is_next, slots_after, stepped, applied, ran, ends_query, IsStable}
-use Rattle.pref_core.proofs.StandsForLaws.{seen_close-before, seen_born-before, hidden_unneeded, IsFree-from, some_then}
+use Rattle.pref_core.proofs.StandsForLaws.{seen_born-before, hidden_unneeded, IsFree-from, some_then, fills_nothing}
 use Rattle.pref_core.proofs.OutcomeLaws.{IsAllowed-from}
 
 -- what each slot shows at a stamp
@@ -15,31 +15,25 @@ pub visible_shown : (stamp : ℕ) (slots : List (Option Version)) → visible st
 visible_shown stamp [] = refl
 visible_shown stamp (slot ∷ slots) = ap (cons_option (seen stamp slot)) (visible_shown stamp slots)
 
-shown_block : (stamp block size : ℕ) (slots : List (Option Version)) → shown stamp (block_of block size slots) ≡ take size (drop (block * size) (shown stamp slots))
-shown_block stamp block size slots = sym (take-map (seen stamp) size (drop (block * size) slots)) ∙ ap (take size) (sym (drop-map (seen stamp) (block * size) slots))
-
 same_block : (stamp block size : ℕ) (before after : List (Option Version)) → shown stamp after ≡ shown stamp before → visible stamp (block_of block size after) ≡ visible stamp (block_of block size before)
-same_block stamp block size before after same = grind (arith, visible_shown stamp (block_of block size after), visible_shown stamp (block_of block size before), shown_block stamp block size after, shown_block stamp block size before)
+same_block stamp block size before after same =
+    grind (arith, visible_shown stamp (block_of block size after), visible_shown stamp (block_of block size before), take-map (seen stamp) size (drop (block * size) after), take-map (seen stamp) size (drop (block * size) before), drop-map (seen stamp) (block * size) after, drop-map (seen stamp) (block * size) before)
 
 shown_close : (ids : List ℕ) (now stamp : ℕ) (slots : List (Option Version)) → stamp ≤ now → shown stamp (map (close ids (suc now)) slots) ≡ shown stamp slots
 shown_close ids now stamp [] l = refl
-shown_close ids now stamp (slot ∷ slots) l = ap₂ ◌∷◌ (seen_close-before ids now stamp slot l) (shown_close ids now stamp slots l)
+shown_close ids now stamp (slot ∷ slots) l = ap₂ ◌∷◌ (grind (arith)) (shown_close ids now stamp slots l)
 
 shown_set : (stamp : ℕ) (slots : List (Option Version)) (place : ℕ) (old new : Option Version) → slice_get slots place ≡ Some old → seen stamp old ≡ seen stamp new → shown stamp (slice_set slots place new) ≡ shown stamp slots
 shown_set stamp slots place old new at same = map-set_same (seen stamp) slots place new old (sym same ∙ ap (seen stamp) (sym (get_or_from_slice_get slots place old old at)))
 
 -- the client's begin is one of the begins
-hidden_at : (callers : List Caller) (k : ℕ) (caller : Caller) (stamp : ℕ) (P : ℕ → Type 0) → slice_get callers k ≡ Some caller → caller.at_begin ≡ Some stamp → AllByRecursion P (begins callers) → P stamp
-hidden_at (first ∷ callers) (suc k) caller stamp P at is h = grind (arith, hidden_at callers k caller stamp P at is)
-hidden_at callers k caller stamp P at is h = grind (arith)
+hidden_at : (callers : List Caller) (k stamp : ℕ) (P : ℕ → Type 0) → elim (slice_get callers k) as (λ x. Option ℕ) [ None ↦ None | Some caller ↦ caller.at_begin ] ≡ Some stamp → AllByRecursion P (begins callers) → P stamp
+hidden_at (first ∷ callers) (suc k) stamp P is h = grind (arith, hidden_at callers k stamp P is)
+hidden_at callers k stamp P is h = grind (arith)
 
 begin_hidden : (contents : Contents) (client stamp : ℕ) (P : ℕ → Type 0) → caller_begun contents client ≡ Some stamp → AllByRecursion P (begins contents.callers) → P stamp
 begin_hidden contents zero stamp P e h = absurd (cc)
-begin_hidden contents (suc k) stamp P e h = go (slice_get contents.callers k) refl e
-  where
-    go : (found : Option Caller) → slice_get contents.callers k ≡ found → elim found as (λ x. Option ℕ) [ None ↦ None | Some caller ↦ caller.at_begin ] ≡ Some stamp → P stamp
-    go None at is = absurd (cc)
-    go (Some caller) at is = hidden_at contents.callers k caller stamp P at is h
+begin_hidden contents (suc k) stamp P e h = hidden_at contents.callers k stamp P e h
 
 shown_filled : (contents : Contents) (client stamp made : ℕ) → caller_begun contents client ≡ Some stamp → stamp < made → (now : ℕ) (places : List ℕ) (begun : List Entry) (slots after : List (Option Version))
     → filled (now ∷ begins contents.callers) made places begun slots ≡ Some after → shown stamp after ≡ shown stamp slots
@@ -60,11 +54,7 @@ shown_after contents client stamp is l op slots fits = go (is_change op.call && 
     go true e =
         shown_filled contents client stamp (suc contents.stamp) is (omega arith) (suc contents.stamp) op.slots (begun contents.next_id op.call) (map (close (ended op.call) (suc contents.stamp)) contents.slots) slots (rw e at fits)
         ∙ shown_close (ended op.call) contents.stamp stamp contents.slots l
-    go false e = quiet op.slots (rw e at fits)
-      where
-        quiet : (places : List ℕ) → filled (stamps contents) contents.stamp places [] contents.slots ≡ Some slots → shown stamp slots ≡ shown stamp contents.slots
-        quiet [] f = let same : contents.slots ≡ slots = cc in ap (shown stamp) (sym same)
-        quiet (place ∷ places) f = absurd (cc)
+    go false e = let quiet = rw e at fits in grind (arith, fills_nothing (stamps contents) contents.stamp op.slots contents.slots)
 
 pub slice_get-set_same : {X : Type 0} (xs : List X) (k : ℕ) (x y : X) → slice_get xs k ≡ Some x → slice_get (slice_set xs k y) k ≡ Some y
 slice_get-set_same (z ∷ xs) (suc k) x y h = slice_get-set_same xs k x y h
@@ -110,15 +100,10 @@ pub record Lasts (client stamp : ℕ) (before after : Contents) : Type 0 where
   pub within : stamp ≤ after.stamp
   pub shows : shown stamp after.slots ≡ shown stamp before.slots
 
-lasts_stepped : (contents : Contents) (client stamp : ℕ) (op : Op) (slots : List (Option Version)) → begun_at (seat client (callers_after contents.stamp contents.callers op.client op.call)) ≡ Some stamp → stamp ≤ contents.stamp → shown stamp slots ≡ shown stamp contents.slots
-    → Lasts client stamp contents (stepped contents op slots)
-lasts_stepped contents client stamp op slots begun l shows = grind (arith)
-
 pub lasts_applied : (contents : Contents) (client stamp : ℕ) (op : Op) → caller_begun contents client ≡ Some stamp → stamp ≤ contents.stamp → ends_query client op ≡ false → Lasts client stamp contents (applied contents op)
 lasts_applied contents client stamp op is l open_ =
     holds_applied contents op (Lasts client stamp contents) (record { at_begin = is; within = l; shows = refl })
-    (λ slots n e. lasts_stepped contents client stamp op slots (kept_at contents client stamp op is (IsAllowed-from contents op n).accepted open_) l
-    (shown_after contents client stamp is l op slots e))
+    (λ slots n e. grind (arith, kept_at contents client stamp op is (IsAllowed-from contents op n).accepted open_, shown_after contents client stamp is l op slots e))
 
 pub shown_ran : (ops : List Op) (contents : Contents) (client stamp : ℕ) → caller_begun contents client ≡ Some stamp → stamp ≤ contents.stamp → AllByRecursion (λ op. ends_query client op ≡ false) ops → shown stamp (ran contents ops).slots ≡ shown stamp contents.slots
 shown_ran [] contents client stamp is l h = refl

@@ -1,7 +1,7 @@
 -- What slots show at each stamp when versions end, begin, and take a slot that isn't needed.
-use Rattle.pref_core.proofs.Common.{◌≡◌, ℕ, suc, ◌≤◌, false, not, List, [], ◌∷◌, map, Option, Some, None, slice_get, slice_set, refl, arith, AllByRecursion, AllZip, IsPermutation-trans, IsPermutation-sym, Version, Caller, Line, among}
+use Rattle.pref_core.proofs.Common.{◌≡◌, ℕ, suc, ◌≤◌, false, not, List, [], ◌∷◌, map, Option, Some, None, slice_get, slice_set, refl, arith, AllByRecursion, AllZip, IsPermutation-trans, IsPermutation-sym, Version, Caller, Line, among, is_some, nat_eq}
 use Rattle.pref_core.proofs.Common.{without, Entry, Client, Snapshot, seen, is_needed, begins, IsWithin, Shows, ShowsBegin, StandsForClient, new_version, close, rules, ◌+◌, Bool, true, cond, ◌++◌, length, ap, ◌∙◌, subst, State, Contents}
-use Rattle.pref_core.proofs.Common.{StandsFor, stamps, is_free, filled, ◌<◌, nat_lt, cons_option, IsPermutation, IsPermutation-refl, IsPermutation-cons, le-leb, lt-leb, put, visible}
+use Rattle.pref_core.proofs.Common.{StandsFor, stamps, is_free, filled, ◌<◌, nat_lt, cons_option, IsPermutation, IsPermutation-refl, IsPermutation-cons, lt-leb, put, visible}
 use Rattle.pref_core.proofs.Permutations.{IsPermutation-filter, IsPermutation-over}
 use Rattle.pref_core.proofs.TableLaws.{IsOrdered-filter}
 use Rattle.pref_core.proofs.SlotKeys.{AreDifferent-set, AllByRecursion-set}
@@ -29,13 +29,10 @@ put_permutes shown (next ∷ rest) =
       | false ↦ IsPermutation-trans _ _ _ (IsPermutation-over shown next rest) (IsPermutation-cons next _ _ (put_permutes shown rest))
     ]
 
--- what a version that ends at a later stamp shows before: the same
-pub seen_close-before : (ids : List ℕ) (now stamp : ℕ) (slot : Option Version) → stamp ≤ now → seen stamp (close ids (suc now) slot) ≡ seen stamp slot
-seen_close-before ids now stamp slot h = grind (arith)
-
+-- what versions that end at a later stamp show before: the same
 pub visible_close-before : (ids : List ℕ) (now stamp : ℕ) (slots : List (Option Version)) → stamp ≤ now → visible stamp (map (close ids (suc now)) slots) ≡ visible stamp slots
 visible_close-before ids now stamp [] h = refl
-visible_close-before ids now stamp (slot ∷ slots) h = rw (seen_close-before ids now stamp slot h, visible_close-before ids now stamp slots h) refl
+visible_close-before ids now stamp (slot ∷ slots) h = grind (arith, visible_close-before ids now stamp slots h)
 
 -- a line goes out where its id is one of these
 abbrev pub kept : List ℕ → Option Line → Option Line
@@ -46,10 +43,7 @@ pub visible_close-after : (ids : List ℕ) (next now : ℕ) (slots : List (Optio
 visible_close-after ids next now [] h = refl
 visible_close-after ids next now (slot ∷ slots) h = grind (arith, visible_close-after ids next now slots h.1)
 
--- a new version shows its line from its birth on
-pub seen_born : (made : ℕ) (fresh : Entry) → seen made (new_version made fresh) ≡ Some (record { id = fresh.id; made = made; row = fresh.row })
-seen_born made fresh = rw (le-leb made made (omega arith)) refl
-
+-- a new version shows nothing before its birth
 pub seen_born-before : (stamp made : ℕ) (fresh : Entry) → stamp < made → seen stamp (new_version made fresh) ≡ None
 seen_born-before stamp made fresh h = rw (lt-leb made stamp h) refl
 
@@ -59,9 +53,6 @@ Shows-close ids next now slots table within shows = record {
   lines = rw (visible_close-after ids next now slots within) (IsPermutation-filter (λ line. not (among ids line.id)) _ _ shows.lines);
   ordered = IsOrdered-filter (λ line. not (among ids line.id)) table shows.ordered;
 }
-
-pub Shows-close-before : (ids : List ℕ) (now stamp : ℕ) (slots : List (Option Version)) (table : List Line) → stamp ≤ now → Shows slots stamp table → Shows (map (close ids (suc now)) slots) stamp table
-Shows-close-before ids now stamp slots table h shows = search (rules, visible_close-before)
 
 -- a slot that shows nothing is used again
 pub Shows-set : (stamp : ℕ) (slots : List (Option Version)) (place : ℕ) (old new : Option Version) (table : List Line) → slice_get slots place ≡ Some old → seen stamp old ≡ None → Shows (new ∷ slots) stamp table → Shows (slice_set slots place new) stamp table
@@ -77,18 +68,15 @@ ShowsBegin-moved : (slots moved : List (Option Version)) (now later : ℕ) → n
 ShowsBegin-moved slots moved now later l (Some stamp) (Some found) f h = (h.0, omega arith, f stamp found.table refl h.1 h.2)
 ShowsBegin-moved slots moved now later l begun found f h = grind (arith)
 
-AllZip-weaker : {A B : Type 0} (R Q : A → B → Type 0) → ((a : A) (b : B) → R a b → Q a b) → (xs : List A) (ys : List B) → AllZip R xs ys → AllZip Q xs ys
+pub AllZip-weaker : {A B : Type 0} (R Q : A → B → Type 0) → ((a : A) (b : B) → R a b → Q a b) → (xs : List A) (ys : List B) → AllZip R xs ys → AllZip Q xs ys
 AllZip-weaker R Q f (x ∷ xs) (y ∷ ys) h = (f x y h.0, AllZip-weaker R Q f xs ys h.1)
 AllZip-weaker R Q f xs ys h = grind (arith)
 
 pub clients-close : (ids : List ℕ) (now : ℕ) (slots : List (Option Version)) (callers : List Caller) (clients : List Client) → AllZip (StandsForClient slots now) callers clients → AllZip (StandsForClient (map (close ids (suc now)) slots) now) callers clients
 clients-close ids now slots = AllZip-weaker (StandsForClient slots now) (StandsForClient (map (close ids (suc now)) slots) now) (λ caller client h. record {
   calls = h.calls;
-  at_begin = ShowsBegin-moved slots _ now now (omega arith) caller.at_begin client.at_begin (λ stamp table e l. Shows-close-before ids now stamp slots table l) h.at_begin;
+  at_begin = ShowsBegin-moved slots _ now now (omega arith) caller.at_begin client.at_begin (λ stamp table e l shows. search (rules, visible_close-before)) h.at_begin;
 })
-
-pub clients-new_version : (now : ℕ) (fresh : Entry) (slots : List (Option Version)) (callers : List Caller) (clients : List Client) → AllZip (StandsForClient slots now) callers clients → AllZip (StandsForClient (new_version (suc now) fresh ∷ slots) now) callers clients
-clients-new_version now fresh slots = grind (arith, AllZip-weaker)
 
 pub clients-later : (now : ℕ) (slots : List (Option Version)) (callers : List Caller) (clients : List Client) → AllZip (StandsForClient slots now) callers clients → AllZip (StandsForClient slots (suc now)) callers clients
 clients-later now slots = grind (arith, AllZip-weaker)
@@ -125,6 +113,16 @@ IsFree-behind ns front slots place h = record { old = h.old; at = slice_get_behi
 -- a test that gives something, where its other branch has none
 pub some_then : {X : Type 0} (b : Bool) (o : Option X) (x : X) → cond b o None ≡ Some x → (b ≡ true) × (o ≡ Some x)
 some_then b o x e = grind (arith)
+
+-- No row fits in no slot alone.
+pub fills_nothing : (ns : List ℕ) (made : ℕ) (places : List ℕ) (slots : List (Option Version)) → filled ns made places [] slots ≡ cond (nat_eq (length places) 0) (Some slots) None
+fills_nothing ns made [] slots = refl
+fills_nothing ns made (place ∷ places) slots = grind (arith)
+
+-- what a value that is there is
+pub some_is : {X : Type 0} (o : Option X) → is_some o ≡ true → (x : X) × (o ≡ Some x)
+some_is None some = absurd (cc)
+some_is (Some x) some = (x, refl)
 
 -- each in its turn
 pub filled_stands : (contents : Contents) (state : State) (made : ℕ) (places : List ℕ) (begun : List Entry) (slots after : List (Option Version)) → filled (stamps contents) made places begun slots ≡ Some after

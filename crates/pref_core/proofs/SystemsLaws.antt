@@ -1,7 +1,7 @@
 -- What runs stands for the system, call by call.
 use Rattle.pref_core.proofs.Common.{◌≡◌, ℕ, zero, suc, ◌^◌, true, false, nat_lt, List, [], ◌∷◌, map, length, replicate, Option, Some, None, is_some, refl, sym, ap, ◌∙◌, subst, option_map}
 use Rattle.pref_core.proofs.Common.{Question, Version, Call, Outcome, Op, Reply, NoSuchClient, Row, Limits, AreAllowed, blocks, State, Client, Snapshot, seat, with_seat, begun_of}
-use Rattle.pref_core.proofs.Common.{refusal, refusal_of, refusal_by_query, is_change, succeeds, outcome, committed, counted, begun_after, after, opening, idle_clients, Open, Member, System, snapshot}
+use Rattle.pref_core.proofs.Common.{refusal, refusal_of, refusal_by_query, is_change, outcome, counted, begun_after, after, opening, idle_clients, Open, Member, System, snapshot}
 use Rattle.pref_core.proofs.Common.{client_of, state_of, counted_with, scanned_with, changed, opened, Contents, StandsFor, Shows, IsLegal, applied, Scan, begin, Running, Follows}
 use Rattle.pref_core.proofs.Common.{StandsForQuery, StandsForMember, StandsForSystem, IsPlan, called, Ok, arith}
 use Rattle.pref_core.proofs.LegalLaws.{applied_stands, plans_in}
@@ -23,34 +23,24 @@ refusal_there system client member call at = grind (arith, client_there)
 pub refusal_nobody : (system : System) (client : ℕ) (call : Call) → seat client system.members ≡ None → refusal (state_of system) client call ≡ Some NoSuchClient
 refusal_nobody system client call at = grind (arith, seat-map)
 
-counted_there : (system : System) (client : ℕ) (member : Member) (call : Call) → seat client system.members ≡ Some member
-    → counted (state_of system) client call ≡ with_seat client (record { calls = suc member.calls; at_begin = begun_after (state_of system) call (option_map snapshot member.query) }) (map client_of system.members)
-counted_there system client member call at = grind (arith, client_there)
-
 -- the state in which the client has made this call too
 abbrev pub noted : System → ℕ → Call → State
 noted system client call = record { table = system.table; next_id = system.next_id; commits = system.commits; clients = counted (state_of system) client call }
 
 pub state_of-counted : (system : System) (client : ℕ) (member : Member) (call : Call) (query : Option Open) → seat client system.members ≡ Some member → option_map snapshot query ≡ begun_after (state_of system) call (option_map snapshot member.query)
     → state_of (counted_with query client member system) ≡ noted system client call
-state_of-counted system client member call query at e = grind (arith, with_seat-map, counted_there)
+state_of-counted system client member call query at e = grind (arith, with_seat-map, client_there)
 
--- a call that is no change, and a change by whether it succeeds
+-- a call that is no change
 pub after_quiet : (capacity : ℕ) (system : System) (client : ℕ) (call : Call) → is_change call ≡ false → after capacity (state_of system) client call ≡ noted system client call
 after_quiet capacity system client call c = rw c refl
-
-after_done : (capacity : ℕ) (system : System) (client : ℕ) (call : Call) → is_change call ≡ true → succeeds (outcome capacity (state_of system) call) ≡ true → after capacity (state_of system) client call ≡ committed call (noted system client call)
-after_done capacity system client call c s = grind (arith)
-
-after_refused : (capacity : ℕ) (system : System) (client : ℕ) (call : Call) → is_change call ≡ true → succeeds (outcome capacity (state_of system) call) ≡ false → after capacity (state_of system) client call ≡ noted system client call
-after_refused capacity system client call c s = grind (arith)
 
 pub begun_after-change : (state : State) (call : Call) (found : Option Snapshot) → is_change call ≡ true → found ≡ begun_after state call found
 begun_after-change state call found c = grind (arith)
 
 pub state_of-changed : (capacity : ℕ) (system : System) (client : ℕ) (member : Member) (call : Call) (done : Reply) → seat client system.members ≡ Some member → is_change call ≡ true
     → state_of (changed (outcome capacity (state_of system) call) done call (counted_with member.query client member system)).next ≡ after capacity (state_of system) client call
-state_of-changed capacity system client member call done at c = grind (arith, state_of-counted, after_done, after_refused)
+state_of-changed capacity system client member call done at c = grind (arith, state_of-counted)
 
 pub members-changed : (o : Outcome) (done : Reply) (call : Call) (counted_one : System) → (changed o done call counted_one).next.members ≡ counted_one.members
 members-changed o done call counted_one = grind (arith)

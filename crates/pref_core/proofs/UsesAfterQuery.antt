@@ -30,15 +30,12 @@ pub uses_kept : (contents : Contents) (client : ℕ) (call : Call) → refusal_a
 uses_kept contents zero call accepted stays within = refl
 uses_kept contents (suc k) call accepted stays within = there (slice_get contents.callers k) refl accepted
   where
-    still : (call : Call) (found new : Caller) → new.at_begin ≡ begin_after contents.stamp call found.at_begin → refusal_of (Some found.calls) (is_some found.at_begin) call ≡ None → is_end call ≡ false → SeesStill contents.next_id contents.stamp found new
-    still call found new is r e = grind (arith)
-
     there : (o : Option Caller) → slice_get contents.callers k ≡ o → refusal_of (elim o as (λ x. Option ℕ) [ None ↦ None | Some caller ↦ Some caller.calls ]) (is_some (elim o as (λ x. Option ℕ) [ None ↦ None | Some caller ↦ caller.at_begin ])) call ≡ None
         → map (use_of (elim o as (λ x. List Caller) [ None ↦ contents.callers | Some found ↦ set contents.callers k (record { calls = suc found.calls; at_begin = begin_after contents.stamp call found.at_begin }) ])) contents.slots ≡ uses_of contents
     there None at r = refl
     there (Some found) at r =
         let new : Caller = record { calls = suc found.calls; at_begin = begin_after contents.stamp call found.at_begin } in
-        uses_still contents.next_id contents.stamp contents.callers k found new contents.slots at (still call found new refl r stays) within
+        uses_still contents.next_id contents.stamp contents.callers k found new contents.slots at (grind (arith)) within
 
 -- A client whose call gets a number is one of the callers.
 pub seated : (contents : Contents) (client : ℕ) (call : Call) → refusal_at contents client call ≡ None → (1 ≤ client) × (client ≤ length contents.callers)
@@ -68,8 +65,7 @@ use_left start (suc k) keeper (first ∷ callers) new slot is l e = grind (arith
 
 uses_left : (keeper : ℕ) (callers : List Caller) (new : Caller) (slots : List (Option Version)) → keeper < length callers → new.at_begin ≡ None → AllZip (MayBecome keeper) (map (use_of callers) slots) (map (use_of (set callers keeper new)) slots)
 uses_left keeper callers new [] l e = tt
-uses_left keeper callers new (None ∷ slots) l e = ((refl, inl refl), uses_left keeper callers new slots l e)
-uses_left keeper callers new (Some version ∷ slots) l e = grind (arith, uses_left keeper callers new slots l e, use_left 0 keeper keeper callers new (Some version))
+uses_left keeper callers new (slot ∷ slots) l e = grind (arith, uses_left keeper callers new slots l e, use_left 0 keeper keeper callers new)
 
 pub uses_end : (contents : Contents) (client : ℕ) (call : Call) → refusal_at contents client call ≡ None → is_end call ≡ true
     → AllZip (MayBecome (client - 1)) (uses_of contents) (map (use_of (callers_after contents.stamp contents.callers client call)) contents.slots)
@@ -77,13 +73,10 @@ uses_end contents zero call accepted e = absurd (cc)
 uses_end contents (suc k) call accepted e = subst (λ n. AllZip (MayBecome n) (uses_of contents) (map (use_of (callers_after contents.stamp contents.callers (suc k) call)) contents.slots)) (let same : k ≡ suc k - 1 = omega arith in same)
     (there (slice_get contents.callers k) refl accepted)
   where
-    gone : (call : Call) (b : Option ℕ) → is_end call ≡ true → begin_after contents.stamp call b ≡ None
-    gone call b e = grind (arith)
-
     there : (o : Option Caller) → slice_get contents.callers k ≡ o → refusal_of (elim o as (λ x. Option ℕ) [ None ↦ None | Some caller ↦ Some caller.calls ]) (is_some (elim o as (λ x. Option ℕ) [ None ↦ None | Some caller ↦ caller.at_begin ])) call ≡ None
         → AllZip (MayBecome k) (uses_of contents) (map (use_of (elim o as (λ x. List Caller) [ None ↦ contents.callers | Some found ↦ set contents.callers k (record { calls = suc found.calls; at_begin = begin_after contents.stamp call found.at_begin }) ])) contents.slots)
     there None at r = absurd (cc)
-    there (Some found) at r = uses_left k contents.callers (record { calls = suc found.calls; at_begin = begin_after contents.stamp call found.at_begin }) contents.slots (slice_get_within contents.callers k found at) (gone call found.at_begin e)
+    there (Some found) at r = uses_left k contents.callers (record { calls = suc found.calls; at_begin = begin_after contents.stamp call found.at_begin }) contents.slots (slice_get_within contents.callers k found at) (grind (arith))
 
 -- What a legal op leaves is what applying it makes, ..
 pub stepped_is : (contents : Contents) (op : Op) (slots : List (Option Version)) (new : Contents) → is_next contents op ≡ true → slots_after contents op ≡ Some slots → new ≡ stepped contents op slots → new ≡ applied contents op
@@ -118,17 +111,8 @@ pub record IsSweeping (keeper turn : ℕ) (uses after : List SlotUse) : Type 0 w
 pub sweep_begins : (keeper : ℕ) (uses after : List SlotUse) → AllZip (MayBecome keeper) uses after → IsSweeping keeper 0 uses after
 sweep_begins keeper uses after h = grind (arith, count_by-le-length, length_all_zip)
 
-kept_one : (keeper : ℕ) → ◌≡◌ {A = ℕ} (cond (is_kept_by keeper (Ended keeper)) 1 0) 1
-kept_one keeper = ap (λ b. cond b 1 0) (eq-eqb keeper keeper refl)
-
 pub sweep_goes : (keeper turn place : ℕ) (uses after : List SlotUse) → IsSweeping keeper turn uses after → slice_get uses place ≡ Some (Ended keeper) → IsSweeping keeper (turn + 1) (set uses place (get_or after place Live)) after
-sweep_goes keeper turn place uses after h at =
-    grind (
-      arith,
-      use_given keeper place uses after h.may (slice_get_within uses place (Ended keeper) at),
-      count_set (is_kept_by keeper) uses place (Ended keeper) (get_or after place Live) at,
-      kept_one,
-    )
+sweep_goes keeper turn place uses after h at = grind (arith, use_given keeper place uses after h.may, slice_get_within, count_set (is_kept_by keeper), eq-eqb)
 
 -- Where no place is kept all uses are as they are to be, ..
 pub swept : (keeper : ℕ) (uses after : List SlotUse) → AllZip (MayBecome keeper) uses after → ((place : ℕ) → slice_get uses place ≡ Some (Ended keeper) → ⊥) → uses ≡ after
@@ -137,4 +121,4 @@ swept keeper uses after h none = grind (arith)
 
 -- .. and so they are where no turn is left.
 pub swept_all : (keeper turn : ℕ) (uses after : List SlotUse) → IsSweeping keeper turn uses after → length after ≤ turn → uses ≡ after
-swept_all keeper turn uses after h past = swept keeper uses after h.may (λ place at. grind (arith, count_set (is_kept_by keeper) uses place (Ended keeper) Free at, kept_one))
+swept_all keeper turn uses after h past = swept keeper uses after h.may (λ place at. grind (arith, count_set (is_kept_by keeper) uses place (Ended keeper) Free at, eq-eqb))

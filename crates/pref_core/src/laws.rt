@@ -14,7 +14,6 @@ pub fn blocks_stay()
 
 /// Operations that are legal one after the other are, slots left out, a legal history, and what they leave
 /// represents the state after it.
-#[tactic(auto, using(crate::proofs::HistoryLaws::ops_are_history))]
 pub fn ops_are_history()
     ensures { OpsAreHistory }
 {}
@@ -39,7 +38,6 @@ pub fn needed_fits_slots()
 {}
 
 /// The blocks hold each slot once.
-#[tactic(auto, using(crate::proofs::QueryLaws::blocks_are_the_slots))]
 pub fn blocks_are_the_slots()
     ensures { BlocksAreTheSlots }
 {}
@@ -52,7 +50,6 @@ pub fn next_block_is_new()
 {}
 
 /// A query's answer is that of its question over the table at its begin, whatever was done to the store since.
-#[tactic(auto, using(crate::proofs::QueryLaws::lives_answer_the_begin))]
 pub fn answers_the_begin()
     ensures { AnswersTheBegin }
 {}

@@ -337,28 +337,22 @@ impl Machine {
         ensures { Does self.old client act.now result self.new }
     {
         match act {
-            Act::Insert(row) => Ok(Reply::Inserted(self.insert(alloc, client, row)?)),
+            Act::Insert(row) => self.insert(alloc, client, row).map(Reply::Inserted),
             Act::Update(id, row) => {
-                self.update(alloc, client, *id, row)?;
-                Ok(Reply::Updated(*id))
+                self.update(alloc, client, *id, row)
+                    .and(Ok(Reply::Updated(*id)))
             }
-            Act::Delete(id) => {
-                self.delete(alloc, client, *id)?;
-                Ok(Reply::Deleted(*id))
-            }
+            Act::Delete(id) => self.delete(alloc, client, *id).and(Ok(Reply::Deleted(*id))),
             Act::Commit(commit) => {
-                let commit = commit.commit();
-                Ok(Reply::Committed(self.commit(alloc, client, commit)?))
+                self.commit(alloc, client, commit.commit())
+                    .map(Reply::Committed)
             }
             Act::Begin(_) => unreachable!(),
-            Act::Scan => Ok(Reply::Left(self.scan(alloc, client)?)),
-            Act::Finish => Ok(Reply::Answer(self.finish(alloc, client)?)),
-            Act::Abandon => {
-                self.abandon(client)?;
-                Ok(Reply::Abandoned)
-            }
-            Act::Get(id) => Ok(Reply::Found(*id, self.get(client, *id)?)),
-            Act::Room => Ok(Reply::Room(self.room(client)?)),
+            Act::Scan => self.scan(alloc, client).map(Reply::Left),
+            Act::Finish => self.finish(alloc, client).map(Reply::Answer),
+            Act::Abandon => self.abandon(client).and(Ok(Reply::Abandoned)),
+            Act::Get(id) => self.get(client, *id).map(|row| Reply::Found(*id, row)),
+            Act::Room => self.room(client).map(Reply::Room),
         }
     }
 
