@@ -2,7 +2,7 @@
 use Rattle.pref_share.proofs.Common.{◌≡◌, ℕ, suc, ◌-◌, ◌^◌, ◌<◌, Bool, true, false, cond, nat_lt, List, length, Option, Some, None, is_some, refl, sym, ap, ◌∙◌, subst, arith, inl}
 use Rattle.pref_share.proofs.Common.{option_map, Call, CallInsert, CallUpdate, CallDelete, CallCommit, CallBegin, CallFinish, CallAbandon, Added, Done, Full, Act, Insert, Update, Delete, Commit}
 use Rattle.pref_share.proofs.Common.{Begin, ScanAct, Finish, Abandon, Get, Room, Reply, CoreFault, NoQuery, AllScanned, NotDone, MissingRow, State, seat}
-use Rattle.pref_share.proofs.Common.{is_change, begins_row, committed, ended, success_outcome, missing, needed, outcome, after, begun_after, refusal_of, refusal_by_query, Open, Member, System, Step, snapshot}
+use Rattle.pref_share.proofs.Common.{is_change, begins_row, committed, ended, success_outcome, missing, needed, outcome, after, begun_after, refusal_of, Open, Member, System, Step, snapshot}
 use Rattle.pref_share.proofs.Common.{state_of, refused, counted_with, one_less, scanned_with, committed_of, changed, change, seat-with_seat_same, client_there, state_of-counted}
 use Rattle.pref_share.proofs.Common.{after_quiet, state_of-changed, members-changed, Opening, IsLegalFrom, state_at, Asking, Standing, own_refusal, Joins, Changes, Commits, Sees, Begins, Finishes}
 use Rattle.pref_share.proofs.Common.{HasLeft, Scanned, row_after, room_at, open_of, member_of, call_of, step_by, IsStep, StepsTo}
@@ -58,10 +58,6 @@ got o s t id row sees is = grind (arith, stays, line_reply)
 
 pub has_room : (o : Opening) (s t : Standing) (room : ℕ) → Sees o s t → room ≡ room_at o t.seen → StepsTo o s Room (RoomIs room) t
 has_room o s t room sees is = grind (arith, stays)
-
--- a change is not refused for the query
-pub never : (b : Bool) (call : Call) → is_change call ≡ true → refusal_by_query b call ≡ None
-never b call change = grind (arith)
 
 own_refused : (limits : Limits) (system : System) (client : ℕ) (member : Member) (act : Act) (call : Call) (fault : CoreFault) (q : Option Open) → call_of act ≡ Some call → refusal_of (Some member.calls) (is_some q) call ≡ Some fault → step_of limits system client member act q ≡ refused fault system
 own_refused limits system client member act call fault q c e = grind (arith)

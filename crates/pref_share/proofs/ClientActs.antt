@@ -1,6 +1,6 @@
 -- The parts of all clients in a history, and the last act of each.
 use Rattle.pref_share.proofs.Common.{◌≡◌, ◌==◌, ℕ, ◌<◌, cond, List, [], ◌∷◌, ◌++◌, length, Some, refl, sym, ap, ◌∙◌, subst, arith, ◌⊎◌, inl, inr, eq-eqb, ne_eqb}
-use Rattle.pref_share.proofs.Common.{append-nil, length-append, same_Some, count_by, IsPrefix, Op, Act, Reply, Opening, IsLegalFrom, calls_at, Standing, newcomer, StepsTo, Looks, Adds, Runs, none, then, RunsTo, StandsWithin}
+use Rattle.pref_share.proofs.Common.{append-nil, length-append, same_Some, IsPrefix, Op, Act, Reply, Opening, IsLegalFrom, calls_at, Standing, newcomer, StepsTo, Looks, Adds, Runs, none, then, RunsTo, StandsWithin}
 use Rattle.std.proofs.lemmas.List.{same_from_push}
 use Rattle.pref_share.proofs.PrefixLaws.{prefix_shorter}
 use Rattle.pref_share.proofs.CallCounts.{count_last, count_own, count_prefix}
@@ -118,10 +118,7 @@ without_looks o history number Holds rest more _ _ _ _ (then acts returned stand
 
 -- the client whose call the last one is has seen the whole history
 not_behind : (o : Opening) (before : List Op) (op : Op) (s : Standing) → IsLegalFrom o (before ++ op ∷ []) → StandsWithin o (before ++ op ∷ []) s → Counts op.client s → IsPrefix s.seen before → ⊥
-not_behind o before op s legal h c inside =
-    let whole = counted_at o (before ++ op ∷ []) op.client legal (last_one_of o before op legal) in
-    let counted : count_by op.client (before ++ op ∷ []) ≡ s.counter = same_Some _ _ (sym whole ∙ ap (calls_at o (before ++ op ∷ [])) (sym c.same) ∙ h.alone) in
-    omega (arith, counted, count_last op.client before op, count_own op.client op [] (eq-eqb op.client op.client refl), count_prefix op.client s.seen before inside, c.grown)
+not_behind o before op s legal h c inside = grind (arith, count_last, count_own, count_prefix, counted_at, eq-eqb, last_one_of, same_Some)
 
 shorter_before : (o : Opening) (before : List Op) (op : Op) (s : Standing) → StandsWithin o (before ++ op ∷ []) s → length s.seen < length (before ++ op ∷ []) → IsPrefix s.seen before
 shorter_before o before op s h l = prefix_shorter s.seen before (before ++ op ∷ []) h.inside (op ∷ [], refl) (omega (arith, l, length-append before (op ∷ [])))

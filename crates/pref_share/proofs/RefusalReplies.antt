@@ -2,12 +2,12 @@
 use Rattle.pref_share.proofs.Common.{arith, ◌≡◌, ℕ, true, Some, None, Result, Ok, Err, IfErr, refl, sym, subst, Call, NoRow}
 use Rattle.pref_share.proofs.Common.{NoRoom, Act, Scan, Finish, Get, NoSuchRow, OutOfMemory, is_change, ShareFault}
 use Rattle.pref_share.proofs.Common.{Core, Closed, Opening, IsLegalFrom, Standing, asks_for_memory, RefusesCall, RefusesChange, RefusesFinish, RefusesScan}
-use Rattle.pref_share.proofs.Common.{RefusesGet, Performs, call_of, None, own_refusal, CoreFault}
+use Rattle.pref_share.proofs.Common.{RefusesGet, Performs, call_of, None}
 use Rattle.std.specs.Prelude.{IsErrAnd}
 use Rattle.pref_core.specs.declared.fault.CoreFault.TheVariants.{Full}
 use Rattle.pref_core.specs.Systems.{may_want_memory}
 use Rattle.pref_share.specs.Runs.{reply_or_stop}
-use Rattle.pref_share.proofs.ActSteps.{never, sees_same, refused_by_itself, refused_change, not_done, got, no_query, all_scanned}
+use Rattle.pref_share.proofs.ActSteps.{sees_same, refused_by_itself, refused_change, not_done, got, no_query, all_scanned}
 
 -- a call that asks for memory is an act that may
 wants_memory : (act : Act) (call : Call) → call_of act ≡ Some call → asks_for_memory call ≡ true → may_want_memory act ≡ true
@@ -33,10 +33,6 @@ pub get_refused : (o : Opening) (s t : Standing) (id : ℕ) (fault : ShareFault)
 get_refused o s t id (Core core) l h = subst (λ x. Performs o s (Get id) (reply_or_stop (Core x)) t) (sym h.0) (got o s t id None h.1 h.2)
 get_refused o s t id Closed l h = (sees_same o s t l h, refl)
 get_refused o s t id fault l h = absurd h
-
--- a change that gets no number
-pub refuses_change : (o : Opening) (s : Standing) (call : Call) (fault : CoreFault) → is_change call ≡ true → own_refusal s call ≡ Some fault → RefusesChange o s call (Core fault) s
-refuses_change o s call fault change e = grind (arith, never)
 
 -- what holds of a fault holds of the error by which it is passed on
 pub passed_on : {T E : Type 0} (result : Result T E) (fault : E) (P : E → Type 0) → IsErrAnd result (λ passed. passed ≡ fault) → P fault → IfErr result P

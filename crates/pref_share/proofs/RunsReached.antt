@@ -1,7 +1,7 @@
 -- Runs of the sequential table that reach what the parts of all clients in a history say.
 use Rattle.pref_share.proofs.Common.{◌≡◌, ℕ, zero, suc, ◌<◌, ◌≤◌, List, [], ◌∷◌, ◌++◌, map, length, Some, refl, sym, ap, ◌∙◌, subst, arith, inl, inr, ◌⊎◌, All}
-use Rattle.pref_share.proofs.Common.{length-append, map-append, append-nil, filter-append, All-nil, All-push, Op, Act, Reply, seat, System, state_of, opened, step, replies}
-use Rattle.pref_share.proofs.Common.{Opening, IsLegalFrom, first_state, state_at, Standing, member_of, step_by, IsStep, StepsTo}
+use Rattle.pref_share.proofs.Common.{length-append, map-append, append-nil, filter-append, All-push, Op, Act, Reply, seat, System, state_of, opened, step, replies}
+use Rattle.pref_share.proofs.Common.{Opening, IsLegalFrom, state_at, Standing, member_of, step_by, IsStep, StepsTo}
 use Rattle.pref_share.specs.Interleavings.{Answered, events_of, replies_of, acts_of, part_of}
 use Rattle.pref_share.proofs.HistoryLaws.{legal-prefix}
 use Rattle.pref_share.proofs.SequenceLaws.{system_after, system_after-more, replies_from-more, step_leaves, opened_clients, opened_seat}
@@ -82,15 +82,7 @@ reached_more o number p act reply u parts one_of same step_to r = record {
 
 -- where nobody has done anything in an empty history, that is the opening
 reached_none : (o : Opening) (history : List Op) (parts : ℕ → Part) → history ≡ [] → ((number : ℕ) → IsOneOf o number → parts number ≡ nothing_done number) → Reached o history parts
-reached_none o history parts empty idle_all = record {
-  run = [];
-  acts = λ number one. ap (λ (x : Part). x.acts) (sym (idle_all number one));
-  returned = λ number one. ap (λ (x : Part). x.returned) (sym (idle_all number one));
-  nobody_else = All-nil (λ (x : Answered). IsOneOf o x.event.client);
-  answers = refl;
-  state = (λ i. record { table = (first_state o).table; next_id = (first_state o).next_id; commits = (first_state o).commits; clients = opened_clients o.limits.clients i }) ∙ ap (state_at o) (sym empty);
-  seats = λ number one. opened_seat o.limits.clients number one.0 one.1 ∙ ap (λ (x : Part). Some (member_of o x.last)) (sym (idle_all number one));
-}
+reached_none o history parts empty idle_all = grind (arith, opened_clients, opened_seat)
 
 -- where no client's last act looked at the whole history, which is empty, no client has done anything
 was_idle : (o : Opening) (history : List Op) (number : ℕ) (p : Part) → history ≡ [] → LooksNoMore o history number p → p ≡ nothing_done number

@@ -1,7 +1,7 @@
 -- What a client's counter and query are along the history that it sees.
 use Rattle.pref_share.proofs.Common.{first_contents, ◌≡◌, ℕ, suc, ◌<◌, ◌≤◌, true, false, ◌&&◌, ◌==◌, List, [], ◌∷◌, ◌++◌, Option, Some, None, is_some, Result, Ok, refl, sym, ap}
-use Rattle.pref_share.proofs.Common.{◌∙◌, subst, arith, MatchResult, IfOk, IfErr, AllByRecursion, Vec, IsPrefix, Call, Op, ShareFault, CoreFault, State, Client}
-use Rattle.pref_share.proofs.Common.{Snapshot, is_change, calls_of, begun_of, begun_after, after, refusal, refusal_of, Contents, StandsFor, Shows, ShowsBegin}
+use Rattle.pref_share.proofs.Common.{◌∙◌, subst, arith, MatchResult, IfOk, IfErr, AllByRecursion, Vec, IsPrefix, Call, Op, ShareFault, CoreFault, State}
+use Rattle.pref_share.proofs.Common.{Snapshot, is_change, calls_of, begun_of, begun_after, after, refusal, refusal_of, Contents, Shows}
 use Rattle.pref_share.proofs.Common.{eqb-true, same_number, state_after, begin, NextIsNew, IsScanned, Answers, begun_after-change, Opening, IsLegalFrom}
 use Rattle.pref_share.proofs.Common.{history_of, contents_at, state_at, calls_at, Asking, Standing, Sees, Joins, Changes, RefusesChange, IsAnswer, own_refusal}
 use Rattle.pref_share.proofs.Common.{AsksOrNone, Asks, Stands, GivesNone, snapshot_at, outcome_or_refusal}
@@ -13,7 +13,6 @@ use Rattle.pref_core.specs.declared.call.Outcome.{Outcome}
 use Rattle.pref_core.specs.Stability.{is_end, ends_query}
 use Rattle.pref_core.specs.Scans.{Scan}
 use Rattle.std.proofs.Math.Bool.{and-false}
-use Rattle.pref_core.proofs.OutcomeLaws.{SameSeat, nobody, somebody, same_seat}
 use Rattle.pref_core.proofs.VisibleAfterOp.{begun_kept}
 use Rattle.pref_core.proofs.QueryLaws.{stays_on_its_way, begun_on_its_way, next_is_new_on_its_way, scanned_on_its_way, answers_the_begin}
 use Rattle.pref_share.proofs.PrefixLaws.{prefix_self, prefix_trans}
@@ -22,8 +21,8 @@ use Rattle.pref_share.proofs.CallCounts.{calls_in, begun_in, calls_own, begun_ow
 use Rattle.pref_share.proofs.LastCalls.{counted_at, last_caller}
 use Rattle.pref_share.proofs.Common.{⊎_elim, OutOfMemory, IsTurn, JoinsBehind, RefusesToJoin}
 use Rattle.pref_share.specs.declared.client.calls.Joined.{Joined}
-use Rattle.pref_share.proofs.Common.{rules, Bool, cond, nat_lt, added, begins_row, ended, missing, success_outcome, Added, Done, Full, NoRow}
-use Rattle.pref_core.specs.State.{needed_after, outcome}
+use Rattle.pref_share.proofs.Common.{rules, Bool, cond, nat_lt, added, success_outcome, Added, Done, Full, NoRow}
+use Rattle.pref_core.specs.State.{outcome}
 
 none_ends : (client : ℕ) (ops : List Op) → AllByRecursion (λ op. (op.client == client) ≡ false) ops → AllByRecursion (λ op. ends_query client op ≡ false) ops
 none_ends client [] h = tt
@@ -126,20 +125,10 @@ module _ (o : Opening) (old : Standing) (made : ℕ) (call : Call) (j : Joined (
   stands_ended counter ends up = grind (arith, is_added, stands_whole, none_after)
 
 -- the table at an open query's begin is what the slots show there
-shows_begun : (contents : Contents) (state : State) (client : ℕ) (snapshot : Snapshot) → StandsFor contents state → begun_of state client ≡ Some snapshot → Shows contents.slots snapshot.commits snapshot.table
-shows_begun contents state client snapshot h is = go (same_seat contents.slots contents.stamp contents.callers state.clients client h.clients) is
-  where
-    at : (b : Option ℕ) (f : Option Snapshot) → ShowsBegin contents.slots contents.stamp b f → f ≡ Some snapshot → Shows contents.slots snapshot.commits snapshot.table
-    at b f s e = grind (arith)
-
-    go : {a : Option Caller} {b : Option Client} → SameSeat contents.slots contents.stamp a b → elim b as (λ x. Option Snapshot) [ None ↦ None | Some found ↦ found.at_begin ] ≡ Some snapshot → Shows contents.slots snapshot.commits snapshot.table
-    go nobody e = absurd (cc)
-    go (somebody caller found s) e = at caller.at_begin found.at_begin s.at_begin e
-
 asks_shows : (o : Opening) (at : List Op) (number : ℕ) (asking : Asking) → IsLegalFrom o at → Asks o at number asking → Shows (contents_at o at).slots asking.scan.stamp (state_at o asking.at_begin).table
 asks_shows o at number asking legal h =
     subst (λ n. Shows (contents_at o at).slots n (state_at o asking.at_begin).table) (sym h.stamp)
-    (shows_begun (contents_at o at) (state_at o at) number (snapshot_at o asking.at_begin) (legal_stands o at legal) h.found)
+    (begun_kept (contents_at o at) (state_at o at) number (snapshot_at o asking.at_begin) (legal_stands o at legal) h.found).2
 
 -- the open query's answer is that of the table at its begin
 pub answers : (o : Opening) (number counter : ℕ) (seen : List Op) (asking : Asking) (result : Result (Vec Ranked) CoreFault) → Stands o number counter seen (Some asking) → Answers asking.scan result
@@ -193,10 +182,7 @@ change_succeeds lost full adds size next_id = grind (arith)
 -- .. and that its outcome is that of one that succeeds, where it is no refusal
 pub success_returned : (o : Opening) (old new : Standing) (call : Call) (returned : Outcome) (result : Result Outcome ShareFault) → result ≡ outcome_or_refusal returned → Joins o old call returned new → is_change call ≡ true
     → IfOk result (λ done. (next_id : ℕ) × (done ≡ success_outcome next_id call))
-success_returned o old new call returned result e j change =
-    let state = state_at o j.before in
-    let succeeds = change_succeeds (missing (ended call) state.table) (begins_row call && nat_lt o.limits.capacity (needed_after state call)) (nat_lt 0 (added call)) (needed_after state call) state.next_id in
-    rw (e, j.reply, change) succeeds
+success_returned o old new call returned result e j change = grind (arith, change_succeeds)
 
 pub sees : (o : Opening) (old new : Standing) → IsPrefix old.seen new.seen → IsLegalFrom o new.seen → new.counter ≡ old.counter → new.number ≡ old.number → new.query ≡ old.query → Sees o old new
 sees o old new further legal counted same query = record { further = further; legal = legal; counted = counted; same = same; query = query }

@@ -52,7 +52,7 @@ pub record IsAppended (o : Opening) (before : List Op) (client : ℕ) (call : Ca
   pub may : MayFollow o before op
   pub ends : whole ≡ before ++ op ∷ []
 
--- The history under the lock, when a client calls: it goes on with what the client has seen, and holds no more calls of it than it has
+-- The history under the lock, when a client calls: it begins with what the client has seen, and holds no more calls of it than it has
 -- made.
 pub record IsTurn (o : Opening) (number made : ℕ) (seen before : List Op) : Type 0 where
   pub further : IsPrefix seen before

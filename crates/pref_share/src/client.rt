@@ -207,12 +207,11 @@ impl<J: BoardBrand> Client<J> {
         }
     }
 
-    /// Shows that the whole history goes on with what it has seen, and holds just the calls that it made.
+    /// Shows that the whole history begins with what it has seen, and holds just the calls that it made.
     pub(crate) fn check(&mut self, publisher: &mut Publisher<J>)
         ensures same { (publisher.new ≡ publisher.old) × (self.new ≡ self.old) }
         ensures within { StandsWithin J.opening publisher.old self.old }
     {
-        publisher.check(&self.seen);
-        publisher.whole().count(&mut self.page);
+        publisher.check(&self.seen, &mut self.page);
     }
 }

@@ -18,7 +18,7 @@ ghost use Rattle.left_right.specs.Sides.{view};
 ghost use Rattle.pref_core.specs.declared.fault.CoreFault.TheVariants.{OutOfMemory};
 ghost use Rattle.pref_core.specs.Planned.{boxed_op};
 ghost use Rattle.pref_core.specs.State.{added, refusal};
-ghost use Rattle.pref_share.specs.SeenHistory.{IsAppended};
+ghost use Rattle.pref_share.specs.SeenHistory.{IsAppended, IsTurn};
 ghost use Rattle.pref_share.specs.Book.{IsPageOf, count_by, history_page, ops_of};
 ghost use Rattle.pref_share.specs.Openings.{IsLegalFrom, first_contents, contents_at, state_at};
 ghost use Rattle.pref_share.specs.Views.{stamped, HoldsHistory, Knows};
@@ -211,13 +211,15 @@ impl<J: BoardBrand> Publisher<J> {
         published_history(&*self.writer)
     }
 
-    /// Shows that a beginning that was seen on this board begins the history.
-    pub(crate) fn check(&mut self, prefix: &Prefix<J>)
-        ensures same { self.new ≡ self.old }
-        ensures begins { IsPrefix prefix.now self.old }
-        ensures legal { IsLegalFrom J.opening self.old }
+    /// Shows that the history begins with what a client has seen, and holds no more calls of it than stand on its page.
+    pub(crate) fn check(&mut self, seen: &Prefix<J>, page: &mut Page)
+        requires book { page.old.book ≡ J.book }
+        requires client { 0 < page.old.number }
+        ensures same { (self.new ≡ self.old) × (page.new ≡ page.old) }
+        ensures turn { IsTurn J.opening page.old.number (length page.old.ops) seen.now self.old }
     {
-        self.page.check(prefix.entries());
+        self.page.check(seen.entries());
+        self.whole().count(page);
     }
 
     /// How many commits there were.

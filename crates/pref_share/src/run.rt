@@ -319,7 +319,7 @@ fn work_tasks<
     Ok(worked)
 }
 
-/// Shows of each client that the whole history goes on with what it has seen, and holds just the calls that it made.
+/// Shows of each client that the whole history begins with what it has seen, and holds just the calls that it made.
 fn check_each<J: BoardBrand, T: Drop>(publisher: &mut Publisher<J>, all: &mut [Worked<J, T>])
     ensures same { (publisher.new ≡ publisher.old) × (all.new ≡ all.old) }
     ensures within { All (λ worked. StandsWithin J.opening publisher.old worked.client) all.old }

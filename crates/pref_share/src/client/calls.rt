@@ -313,8 +313,7 @@ fn join<J: BoardBrand, R: Wait>(
 {
     let mut guard = board.publisher.lock(rt);
     let publisher = &mut *guard;
-    publisher.check(seen);
-    publisher.whole().count(page);
+    publisher.check(seen, page);
     let outcome = publisher.join(rt, alloc, client, page, call)?;
     Ok(Joined {
         seen: publisher.whole(),

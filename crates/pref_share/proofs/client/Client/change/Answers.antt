@@ -1,19 +1,13 @@
-use Rattle.pref_share.proofs.Common.{◌≡◌, suc, ◌+◌, length, None, refl, sym, subst, ap, ◌∙◌, arith, Standing, own_refusal, Core, IsPageOf, Joins}
+use Rattle.pref_share.proofs.Common.{◌≡◌, suc, ◌+◌, length, None, refl, sym, subst, ap, ◌∙◌, arith, Standing, own_refusal, Core, IsPageOf}
 use Rattle.pref_share.proofs.RefusalReplies.{passed_on}
 use Rattle.pref_share.proofs.StandingLaws.{joins, only_memory, stands_changed, change_returned, success_returned}
 use Rattle.pref_share.proofs.client.Client.change.Given.{Over}
-use Rattle.pref_share.proofs.client.Client.change.Goals.{In_default, In_ok-seen}
+use Rattle.pref_share.proofs.client.Client.change.Goals.{In_default}
 use Rattle.pref_share.proofs.client.Client.change.Goals as goal
 
 -- the call is let in by the client's own counter and query
 accepted : (g : Over) (c : In_default g) → own_refusal (record { number = c.self.inside.number; counter = c.self.inside.counter; seen = c.self.inside.seen; query = c.self.inside.asking }) c.args.call ≡ None
 accepted g c = subst (λ (x : Standing). own_refusal x c.args.call ≡ None) (sym c.self.view_is) (ap (own_refusal c.args.self.now) (sym c.lend.ensures) ∙ sym c.refusal.ensures ∙ c.in_default.is)
-
--- the call, which joined
-called : (g : Over) (c : In_ok-seen g) → own_refusal (record { number = c.self.inside.number; counter = c.self.inside.counter; seen = c.self.inside.seen; query = c.self.inside.asking }) c.args.call ≡ None
-    → Joins g.J.BoardBrand.opening (record { number = c.self.inside.number; counter = c.self.inside.counter; seen = c.self.inside.seen; query = c.self.inside.asking }) c.args.call c.in_ok-seen.field-0.outcome
-    (record { number = c.self.inside.number; counter = c.self.inside.counter + 1; seen = c.in_ok-seen.field-0.seen; query = c.self.inside.asking })
-called g c let_in = joins g.J.BoardBrand.opening _ _ c.args.call c.in_ok-seen.field-0 c.self.invariant.2 c.self.invariant.3.counted c.in_ok-seen.ensures.joined _ let_in refl (omega arith) refl
 
 pub invariant_of-self-2 : goal.invariant_of-self-2
 invariant_of-self-2 g c =
@@ -25,20 +19,16 @@ invariant_of-self-2 g c =
       subst (λ n. IsPageOf g.J.BoardBrand.book c.self.inside.number n c.join.new.page) made c.in_ok-seen.ensures.page,
     )
 
-pub returns-clause-changed : goal.returns-clause-changed
-returns-clause-changed g c =
-    let at = goal.at.returns-clause-changed g c in
-    rw (← c.self.view_is) ((change_returned g.J.BoardBrand.opening _ _ c.args.call _ c.outcome_or_refusal.result c.outcome_or_refusal.ensures (called g at.In_ok-seen (accepted g at.In_default)) refl).0)
-
-pub returns-clause-success_outcome : goal.returns-clause-success_outcome
-returns-clause-success_outcome g c =
-    let at = goal.at.returns-clause-success_outcome g c in
-    success_returned g.J.BoardBrand.opening _ _ c.args.call _ c.outcome_or_refusal.result c.outcome_or_refusal.ensures (called g at.In_ok-seen (accepted g at.In_default)) c.requires.change
-
-pub returns-clause-refused : goal.returns-clause-refused
-returns-clause-refused g c =
-    let at = goal.at.returns-clause-refused g c in
-    rw (← c.self.view_is) ((change_returned g.J.BoardBrand.opening _ _ c.args.call _ c.outcome_or_refusal.result c.outcome_or_refusal.ensures (called g at.In_ok-seen (accepted g at.In_default)) refl).1)
+pub returns : goal.returns
+returns g c =
+    let o = g.J.BoardBrand.opening in
+    let s = c.self.inside in
+    let j = c.in_ok-seen.field-0 in
+    let new : Standing = record { number = s.number; counter = s.counter + 1; seen = j.seen; query = s.asking } in
+    let call = joins o _ _ c.args.call j c.self.invariant.2 c.self.invariant.3.counted c.in_ok-seen.ensures.joined new (accepted g (goal.at.returns g c).In_default) refl (omega arith) refl in
+    let told = change_returned o _ _ c.args.call _ c.outcome_or_refusal.result c.outcome_or_refusal.ensures call refl in
+    rw (← c.self.view_is)
+    (record { changed = told.0; success_outcome = success_returned o _ _ c.args.call _ c.outcome_or_refusal.result c.outcome_or_refusal.ensures call c.requires.change; refused = told.1 })
 
 pub returns-in_err-seen-clause-refused : goal.returns-in_err-seen-clause-refused
 returns-in_err-seen-clause-refused g c =

@@ -1,5 +1,5 @@
 use Rattle.pref_share.proofs.Common.{rules, ◌≡◌, ◌++◌, List, map, Option, Result, Some, refl, sym, subst, ap, ◌∙◌, Vec, IsPrefix, Op, CoreFault, next_block, Contents, Opening, IsLegalFrom}
-use Rattle.pref_share.proofs.Common.{calls_at, contents_at, Asking, Standing, IsPageOf, IsTurn, Stands, count_by, length, ◌≤◌}
+use Rattle.pref_share.proofs.Common.{calls_at, contents_at, Asking, Standing, IsTurn, Stands, count_by, length, ◌≤◌}
 use Rattle.pref_sky.specs.declared.entry.Entry.{Entry}
 use Rattle.pref_sky.specs.Levels.{HaveDifferentIds, entry_of}
 use Rattle.pref_core.specs.Scans.{Reads, IsAdded}
@@ -37,10 +37,6 @@ is_read g c =
       is = c.deref.ensures.value ∙ (subst (λ (r : Result (Vec Entry) CoreFault). Reads asking.scan (contents_at o now).slots r) c.in-Ok.is reads).0;
     }
 
--- the client's page stays
-page_stays : (g : Over) (c : After-deref g) → IsPageOf g.J.BoardBrand.book c.self.inside.number c.self.inside.counter c.count.new.page
-page_stays g c = rw c.count.ensures.same c.self.invariant.3
-
 pub add-requires-clause-new : goal.add-requires-clause-new
 add-requires-clause-new g c =
     let r = is_read g c in
@@ -50,7 +46,7 @@ pub invariant_of-self-in-Ok-add : goal.invariant_of-self-in-Ok-add
 invariant_of-self-in-Ok-add g c =
     let r = is_read g (goal.at.invariant_of-self-in-Ok-add g c).After-deref in
     let added = subst (λ (l : List Entry). IsAdded c.asking.inside.query l c.add.new.self) r.is c.in-Ok-add.ensures.1 in
-    (still_knows c.read-found.ensures.view c.self.invariant.0, c.self.invariant.1, stands_scanned g.J.BoardBrand.opening _ _ _ _ _ c.add.new.self r.stands r.further r.legal r.alone added, page_stays g (goal.at.invariant_of-self-in-Ok-add g c).After-deref)
+    (still_knows c.read-found.ensures.view c.self.invariant.0, c.self.invariant.1, stands_scanned g.J.BoardBrand.opening _ _ _ _ _ c.add.new.self r.stands r.further r.legal r.alone added, rw c.count.ensures.same c.self.invariant.3)
 
 pub returns-in-Ok-add-clause-scanned : goal.returns-in-Ok-add-clause-scanned
 returns-in-Ok-add-clause-scanned g c =
