@@ -97,13 +97,9 @@ long_on text from seen place later none found long = grind (arith, first_on text
 pub long_none : (from : ℕ) (text : List ℕ) → NoLineFeed from (length text) text → 16777216 < length text → IsLong from text
 long_none from text none long = (λ place low high. none place low (omega arith), long)
 
--- the last line
-last_at : (a : ReadAhead) (from : ℕ) → from ≤ length (unread a) → NoLineFeed from (length (unread a)) (unread a) → is_at_end a ≡ true → IsLineAt from (length (unread a)) a
-last_at a from inside none ended = grind (arith, take_all, length-drop, lines_none, lines_last (drop from (unread a)), first_none (unread a) from none)
-
--- the same where a line that goes on would be too long
+-- the last line, which the end of the input ends, or which would be too long if it went on
 pub last_within : (a : ReadAhead) (from end : ℕ) → from ≤ length (unread a) → NoLineFeed from (length (unread a)) (unread a) → (is_at_end a ≡ true) ⊎ (16777216 < length (unread a)) → end ≡ length (unread a) → end ≤ 16777216 → IsLineAt from end a
-last_within a from end inside none (inl ended) is most = subst (λ (n : ℕ). IsLineAt from n a) (sym is) (last_at a from inside none ended)
+last_within a from end inside none (inl ended) is most = grind (arith, take_all, length-drop, lines_none, lines_last (drop from (unread a)), first_none (unread a) from none)
 last_within a from end inside none (inr long) is most = absurd (omega (arith, long, is, most))
 
 -- a whole line is one line

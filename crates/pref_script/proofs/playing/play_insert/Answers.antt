@@ -1,14 +1,10 @@
-use Rattle.pref_script.proofs.Common.{Event, refl}
+use Rattle.pref_script.proofs.Common.{refl}
 use Rattle.pref_script.proofs.PlayLaws.{plays_done, plays_failed}
 use Rattle.pref_core.specs.declared.event.Act.TheVariants.{Insert}
 use Rattle.pref_script.proofs.playing.play_insert.Goals as goal
 
 pub returns-in-Ok : goal.returns-in-Ok
-returns-in-Ok c width =
-    let event : Event = record { client = c.args.client; act = Insert c.args.row.now } in
-    plays_done _ width c.args.machine.now c.insert.new.self event _ _ _ c.push_line.result refl c.in-Ok.ensures c.push_line.ensures
+returns-in-Ok c width = plays_done _ width c.args.machine.now c.insert.new.self (record { client = c.args.client; act = Insert c.args.row.now }) _ _ _ c.push_line.result refl c.in-Ok.ensures c.push_line.ensures
 
 pub returns-in-Err : goal.returns-in-Err
-returns-in-Err c width =
-    let event : Event = record { client = c.args.client; act = Insert c.args.row.now } in
-    plays_failed _ width c.args.machine.now c.insert.new.self event _ _ _ c.push_failed_change.result refl c.in-Err.ensures c.push_failed_change.ensures
+returns-in-Err c width = plays_failed _ width c.args.machine.now c.insert.new.self (record { client = c.args.client; act = Insert c.args.row.now }) _ _ _ c.push_failed_change.result refl c.in-Err.ensures c.push_failed_change.ensures

@@ -6,8 +6,7 @@ use Rattle.pref_script.proofs.threads.run_threads.Goals as goal
 
 pub returns-in_err-sections : goal.returns-in_err-sections
 returns-in_err-sections g c =
-    let why = c.in_err-sections.field-0.0 in
-    rw (exits c.from_residual.result c.from_residual.ensures.1) (prints-fault c.args.setup (g.G.Gate.says c.args.gate.now) c.args.bytes.now why (script-sections-fault c.args.setup c.args.bytes.now why c.in_err-sections.ensures.sections))
+    rw (exits c.from_residual.result c.from_residual.ensures.1) (prints-fault c.args.setup (g.G.Gate.says c.args.gate.now) c.args.bytes.now _ (script-sections-fault c.args.setup c.args.bytes.now _ c.in_err-sections.ensures.sections))
 
 pub returns-in_err-schema : goal.returns-in_err-schema
 returns-in_err-schema g c =
