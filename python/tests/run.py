@@ -5,6 +5,7 @@
 A run that stands still ends after half an hour, and later where PREFQ_TEST_SECONDS makes single tests longer.
 """
 import faulthandler
+import gc
 import os
 import sys
 import unittest
@@ -20,6 +21,8 @@ def main(names):
     faulthandler.dump_traceback_later(LONGEST, exit=True)
     loader = unittest.TestLoader()
     tests = loader.loadTestsFromNames(names) if names else loader.discover(str(HERE))
+    # What is loaded stays, so that collections look at what the tests make alone: some tests collect at each of a hundred places.
+    gc.freeze()
     result = unittest.TextTestRunner(verbosity=1).run(tests)
     for reason, count in sorted(Counter(why for _, why in result.skipped).items()):
         print(f"skipped: {reason} ({count} tests)")
