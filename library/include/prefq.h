@@ -29,7 +29,7 @@ extern "C" {
 #endif
 
 /* The version of this header; prefq_version gives that of the library. */
-#define PREFQ_VERSION "0.6.6"
+#define PREFQ_VERSION "0.6.7"
 
 /* What a call may need of the caller's stack: at least twice what the deepest questions take (library/out/calls --stack measures it, and fails otherwise). */
 #define PREFQ_STACK 786432
@@ -84,7 +84,7 @@ typedef struct prefq_change {
     const int64_t *values; /* the new values; of a delete nothing */
 } prefq_change;
 
-/* The version of the library, as "0.6.6". */
+/* The version of the library, as "0.6.7". */
 const char *prefq_version(void);
 
 /* Why the last call of this thread that did not return PREFQ_OK did nothing. It stands until the thread's next such call. PREFQ_BUSY says all by itself, and leaves

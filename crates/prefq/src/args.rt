@@ -35,7 +35,7 @@ pub enum ArgsFault {
 }
 
 /// The version, which `--version` prints after the name.
-const VERSION: &str = "0.6.6";
+const VERSION: &str = "0.6.7";
 
 /// The end of the program's help: the options, the commands, the questions, and an example.
 const AFTER_HELP: &str = "\

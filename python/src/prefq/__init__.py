@@ -25,7 +25,7 @@ from .select import psel
 from .table import Table
 from .warned import UnknownValue
 
-__version__ = "0.6.6"
+__version__ = "0.6.7"
 __all__ = ["Answer", "AsyncFrame", "AsyncQuery", "AsyncTable", "Column", "Ended", "Error", "Expression", "Followed", "Frame", "FrameQuery", "Hasse", "LibraryNotFound",
            "Preference", "ProgramNotFound", "Query", "Record", "Refused", "Table", "UnknownValue", "around", "between", "empty", "expr", "find_library",
            "find_program", "high", "layered", "low", "parts", "pos", "psel", "reverse", "true"]

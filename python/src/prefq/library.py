@@ -8,7 +8,7 @@ from typing import Any, Dict, List, Union
 
 from .errors import LibraryNotFound
 
-VERSION = "0.6.6"           # of the header library/include/prefq.h that the calls below are written from
+VERSION = "0.6.7"           # of the header library/include/prefq.h that the calls below are written from
 BUNDLED = Path(__file__).with_name("lib") / "libprefq.so"
 BUILT = Path(__file__).resolve().parents[3] / "library/out/libprefq.so"
 BUILD = ("Build it in the repository by `library/build.sh`, then install the package again (`pip install ./python`), "
