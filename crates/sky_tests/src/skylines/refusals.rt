@@ -223,9 +223,10 @@ fn check_refused_list<D: Dominance>(
     requires nothing { partial.old ≡ [] }
     requires ids { HaveDifferentIds entries.now }
 {
-    let held = add_in_two(alloc, dominance, cut, partial, entries, 4)?;
+    add_in_two(alloc, dominance, cut, partial, entries, 4)?;
+    let wanted = levels(alloc, dominance, 1, cut, entries)?;
     let ranked = ranked_in_the_end(rt, alloc, partial);
-    assert_same(rt, "listed", ranked.as_slice(), held.as_slice());
+    assert_same(rt, "listed", ranked.as_slice(), wanted.as_slice());
     Ok(())
 }
 
