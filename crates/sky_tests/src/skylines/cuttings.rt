@@ -4,6 +4,7 @@ ghost use Rattle.pref_sky.specs.Levels.{HaveDifferentIds, entry_order, levels};
 
 use super::answers::ask_of;
 use super::fixtures::{LowBoth, LowInGroup, LowOnce, PAIRS, check_places, falling, numbered};
+use super::plain::add_plainly;
 use crate::same::assert_same;
 use pref_sky::{Entry, Partial, Ranked, levels};
 use pref_table::TableFault;
@@ -12,7 +13,8 @@ use std::alloc::{AllocError, Global};
 use std::process::Abort;
 use std::test::Fail;
 
-/// Adds entries to a partial result that holds nothing, in two pieces that are cut there.
+/// Adds entries to a partial result that holds nothing, in two pieces that are cut there, and returns what the plain merge makes of
+/// the second one.
 pub(super) fn add_in_two<D: Dominance>(
     alloc: Global,
     dominance: &D,
@@ -20,14 +22,31 @@ pub(super) fn add_in_two<D: Dominance>(
     partial: &mut Partial,
     entries: &[Entry],
     at: usize,
-) -> Result<(), AllocError>
+) -> Result<Vec<Ranked>, AllocError>
     requires nothing { partial.old ≡ [] }
     requires ids { HaveDifferentIds entries.now }
     ensures { OnOk result (partial.new ≡ levels (entry_order (D.order dominance.now)) entries.now cut) }
 {
     let (front, back) = entries.split_at(at.min(entries.len()));
     partial.add(alloc, dominance, 2, cut, front)?;
-    partial.add(alloc, dominance, 2, cut, back)
+    let plain = add_plainly(alloc, dominance, 2, cut, partial, back)?;
+    partial.add(alloc, dominance, 2, cut, back)?;
+    Ok(plain)
+}
+
+/// Compares what is held with what the plain merge makes, and with the levels of the whole.
+fn check_held(
+    rt: &impl Abort,
+    alloc: Global,
+    at: usize,
+    partial: &Partial,
+    plain: &[Ranked],
+    whole: &[Ranked],
+) -> Result<(), Fail> {
+    let held = partial.ranked(alloc)?;
+    assert_same(rt, ("plain, cut at", at), held.as_slice(), plain);
+    assert_same(rt, ("whole, cut at", at), held.as_slice(), whole);
+    Ok(())
 }
 
 /// Cut there, the two pieces make the levels of the whole.
@@ -43,10 +62,8 @@ fn check_cutting<D: Dominance>(
     requires { HaveDifferentIds entries.now }
 {
     let mut partial = Partial::empty();
-    add_in_two(alloc, dominance, cut, &mut partial, entries, at)?;
-    let held = partial.ranked(alloc)?;
-    assert_same(rt, ("cut at", at), held.as_slice(), whole);
-    Ok(())
+    let plain = add_in_two(alloc, dominance, cut, &mut partial, entries, at)?;
+    check_held(rt, alloc, at, &partial, plain.as_slice(), whole)
 }
 
 /// The levels have as many entries as given, and two pieces make them too, cut at each of these places.

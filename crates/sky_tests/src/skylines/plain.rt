@@ -1,11 +1,12 @@
 //! The definitions' own programs, which compare each entry with each: the tests hold the fast ones
 //! against them.
 
-ghost use Rattle.std.specs.Prelude.{◌≡◌, IfOk};
+ghost use Rattle.std.specs.Prelude.{◌≡◌, ◌<◌, ◌++◌, List, map, IfOk};
 ghost use Rattle.pref_sky.specs.Best.{best, is_beaten};
-ghost use Rattle.pref_sky.specs.Levels.{HaveDifferentIds, entry_order, in_order_of_id};
+ghost use Rattle.pref_sky.specs.Levels.{HaveDifferentIds, entry_of, entry_order, in_order_of_id, levels};
+ghost use Rattle.pref_sky.specs.declared.entry.Entry.{Entry};
 
-use pref_sky::Entry;
+use pref_sky::{Entry, Partial, Ranked, levels};
 use pref_term::Dominance;
 use std::alloc::{AllocError, Global};
 
@@ -36,4 +37,38 @@ pub(crate) fn best_rows_by_pairs<D: Dominance>(
     }
     unbeaten.sort_unstable_by_key(|entry| entry.id);
     Ok(unbeaten)
+}
+
+/// The entries of a partial result, without their levels.
+fn without_levels(alloc: Global, ranked: &[Ranked]) -> Result<Vec<Entry>, AllocError>
+    ensures { IfOk result (λ entries. entries.items ≡ map entry_of ranked.now) }
+{
+    ranked
+        .iter()
+        .map(|held| Entry {
+            id: held.id,
+            row: held.row,
+        })
+        .collect(alloc)
+}
+
+/// What `Partial::add` leaves, found as the levels of all that is held and the new entries together.
+pub(crate) fn add_plainly<D: Dominance>(
+    alloc: Global,
+    dominance: &D,
+    window: usize,
+    cut: u32,
+    partial: &Partial,
+    entries: &[Entry],
+) -> Result<Vec<Ranked>, AllocError>
+    requires window { 0 < window }
+    requires ids { HaveDifferentIds (map entry_of partial.now ++ entries.now) }
+    ensures { IfOk result (λ ranked. let over = entry_order (D.order dominance.now) in
+        (before : List Entry) → HaveDifferentIds (before ++ entries.now) → partial.now ≡ levels over before cut
+        → ranked.items ≡ levels over (before ++ entries.now) cut) }
+{
+    let held = partial.ranked(alloc)?;
+    let mut all = without_levels(alloc, &held)?;
+    all.extend_from_slice(entries)?;
+    levels(alloc, dominance, window, cut, &all)
 }

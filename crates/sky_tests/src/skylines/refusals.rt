@@ -223,10 +223,9 @@ fn check_refused_list<D: Dominance>(
     requires nothing { partial.old ≡ [] }
     requires ids { HaveDifferentIds entries.now }
 {
-    add_in_two(alloc, dominance, cut, partial, entries, 4)?;
-    let wanted = levels(alloc, dominance, 1, cut, entries)?;
+    let held = add_in_two(alloc, dominance, cut, partial, entries, 4)?;
     let ranked = ranked_in_the_end(rt, alloc, partial);
-    assert_same(rt, "listed", ranked.as_slice(), wanted.as_slice());
+    assert_same(rt, "listed", ranked.as_slice(), held.as_slice());
     Ok(())
 }
 

@@ -1,5 +1,4 @@
 use Rattle.std.proofs.Common.{◌≡◌, ◌++◌, ◌∙◌, ℕ, Bool, List, [], map, sym, subst}
-use Rattle.std.proofs.lemmas.Result.{on_ok_weaker}
 use Rattle.pref_sky.specs.Levels.{HaveDifferentIds, entry_order, entry_of, levels}
 use Rattle.pref_sky.specs.declared.entry.{Entry.{Entry}, Ranked.{Ranked}}
 use Rattle.pref_sky.proofs.LevelLaws.{first_differ, held_differ, levels_of_none}
@@ -20,6 +19,12 @@ add-requires-clause-ids g c =
     let ids = subst HaveDifferentIds c.split_at.ensures.by_index.0 c.requires.ids in
     subst (λ l. HaveDifferentIds (map entry_of l ++ front)) (sym c.requires.nothing) (first_differ front back ids)
 
+pub add_plainly-requires-clause-ids : goal.add_plainly-requires-clause-ids
+add_plainly-requires-clause-ids g c =
+    let over = entry_order (g.D.Dominance.order c.args.dominance.now) in
+    let ids = subst HaveDifferentIds c.split_at.ensures.by_index.0 c.requires.ids in
+    (first_is_held over c.split_at.result.0.now c.split_at.result.1.now c.args.cut ids c.requires.nothing (c.in_ok-add.ensures {u = tt}).ok).1
+
 pub add-requires-2-clause-ids : goal.add-requires-2-clause-ids
 add-requires-2-clause-ids g c =
     let over = entry_order (g.D.Dominance.order c.args.dominance.now) in
@@ -33,4 +38,4 @@ returns g c =
     let all = c.split_at.ensures.by_index.0 in
     let ids = subst HaveDifferentIds all c.requires.ids in
     let held = (first_is_held over front c.split_at.result.1.now c.args.cut ids c.requires.nothing (c.in_ok-add.ensures {u = tt}).ok).0 in
-    on_ok_weaker c.add-2.result (subst (λ l. c.add-2.new.self ≡ levels over l c.args.cut) (sym all)) (c.add-2.ensures.ok front ids held)
+    subst (λ l. c.add-2.new.self ≡ levels over l c.args.cut) (sym all) ((c.in_ok-add-2.ensures {u = tt}).ok front ids held)
