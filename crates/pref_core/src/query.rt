@@ -113,7 +113,6 @@ impl Query {
     /// are left.
     ///
     /// Refused `OutOfMemory`; the query is then as it was.
-    #[tactic(auto, using(std::proofs::lemmas::Grind::common_steps))]
     pub fn add(&mut self, alloc: Global, shown: &[Entry]) -> Result<u32, CoreFault>
         requires some { 0 < self.old.left }
         requires new { HaveDifferentIds (map entry_of self.old.partial ++ shown.now) }
@@ -131,7 +130,6 @@ impl Query {
     ///
     /// Refused `NotDone` where blocks are left, else `OutOfMemory`; the query stays as it
     /// is either way.
-    #[tactic(auto, using(std::proofs::lemmas::Grind::common_steps))]
     pub fn answer(&self, alloc: Global) -> Result<Vec<Ranked>, CoreFault>
         ensures { Answers self.now result }
     {

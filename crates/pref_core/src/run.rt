@@ -32,7 +32,6 @@ pub struct Part {
 ///     println!(rt; "out of memory behind {} replies", part.replies.len())?;
 /// }
 /// ```
-#[tactic(auto, using(std::proofs::lemmas::Grind::common_steps, crate::proofs::RepliesLaws::event_is_left))]
 pub fn replay_part(
     alloc: Global,
     setup: Setup,

@@ -105,7 +105,6 @@ impl<'a> LentCall<'a> {
     /// `Spent` where the client has made all that it may; else `QueryOpen` for a begin beside an open query, and
     /// `NoQuery` for the end of a query where none is open. This is the one rule of refusal: a machine and each client
     /// of a board ask it.
-    #[tactic(auto, using(std::proofs::lemmas::Grind::common_steps))]
     pub fn refusal(&self, calls: u64, query: QueryState) -> Option<CoreFault>
         ensures { result ≡ refusal_of (Some calls) (is_open query) self.now }
     {
@@ -209,7 +208,6 @@ impl<'a> LentCall<'a> {
 
     /// The stamp at the begin of its client's open query after the call, by the stamp then and that of the query
     /// before.
-    #[tactic(auto, using(std::proofs::lemmas::Grind::common_steps))]
     pub(crate) fn begun_after(&self, stamp: u64, begun: Option<u64>) -> Option<u64>
         ensures { result ≡ begin_after stamp self.now begun }
     {

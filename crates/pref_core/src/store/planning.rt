@@ -238,7 +238,6 @@ impl Contents {
     }
 
     /// The outcome of a call that gets a number, by the slots that its ended rows leave free.
-    #[tactic(auto, using(std::proofs::lemmas::Grind::common_steps, crate::proofs::ChosenSlots::outcome_missing))]
     pub(crate) fn outcome(&self, freed: &Result<SlotList, u64>, call: &LentCall<'_>) -> Outcome
         requires { FindsFreed self.now (ended call.now) freed.now }
         ensures { result ≡ outcome_at self.now call.now }

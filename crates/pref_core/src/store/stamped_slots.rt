@@ -189,7 +189,6 @@ impl StampedSlots {
     }
 
     /// The next commit begins.
-    #[tactic(auto, using(std::proofs::lemmas::Grind::common_steps))]
     pub(crate) fn advance(&mut self)
         requires { self.old.stamp < 2 ^ 63 }
         ensures { self.new ≡ record { slots = self.old.slots; stamp = self.old.stamp + 1 } }

@@ -1,7 +1,7 @@
 use Rattle.pref_core.proofs.Common.{◌≡◌, [], ◌∷◌, ◌++◌, length, drop, ap, ◌∙◌, arith, sym, subst, length_push, step, replies_from, StandsForSystem}
 use Rattle.std.proofs.lemmas.Iterator.Consumers.{YieldsList-turn}
 use Rattle.std.proofs.lemmas.Iterator.Adapters.{YieldsList-from_vec}
-use Rattle.pref_core.proofs.RepliesLaws.{reply_is_added, replies_step, one_reply_more}
+use Rattle.pref_core.proofs.RepliesLaws.{reply_is_added, event_is_left, replies_step, one_reply_more}
 use Rattle.pref_core.proofs.run.replay_part.Goals as goal
 
 pub loop-event-preserved : goal.loop-event-preserved
@@ -22,3 +22,10 @@ loop-event-preserved c =
       count = ap length one.added ∙ one_each;
       rest = ap (λ l. l ++ replies_from c.args.setup (step c.args.setup inv.system event).next (drop (length (c.loop-event.yielded ++ event ∷ [])) c.args.events.items)) one.added ∙ more;
     }
+
+-- for an edit that must fail: an answer fails at once, a search twice at its limits
+pub returns-then-is_err-clause-stopped : goal.returns-then-is_err-clause-stopped
+returns-then-is_err-clause-stopped c =
+    let gives = c.into_iter-event-iterator.ensures.into_iter_gives in
+    let turn = YieldsList-turn (YieldsList-from_vec {s = c.into_iter-event-iterator.result} c.args.events.items gives.0 (gives.1 ∙ c.args.events.ok.0)) c.loop-event.yielded c.loop-event.event-iterator c.loop-event.yielded_by c.next.result c.next.new.self c.in-Some.event c.in-Some.is c.next.ensures.steps in
+    sym (event_is_left c.loop-event.returned.items c.reply-reply.result c.push_reply.result c.push_reply.new.returned.items c.loop-event.yielded c.args.events.items c.push_reply.ensures (sym c.if-is_err.ensures.value) c.loop-event.invariant.count turn.0)
