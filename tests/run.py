@@ -40,8 +40,8 @@ TOP = Path(__file__).resolve().parent.parent
 PROGRAM = "crates/prefq/out/prefq"
 LIBRARY = "library/out/libprefq.so"
 PROGRAM_OF_THE_WHEEL = "library/out/prefq"
-# What it is made of.
-MADE_OF = ["crates", "library", "crates.txt", "HANDLES"]
+# What it is made of: of the crates all but the proofs and the must-fail edits, from which no code is made.
+MADE_OF = ["crates", "library", "crates.txt", "HANDLES", ":(exclude,glob)crates/*/proofs/**", ":(exclude,glob)crates/*/must-fail/**"]
 CHECKS_AT_ONCE = 2
 # More than any check takes. (`rt ci` by itself reckons with twice as much or more.)
 KILOBYTES_A_PROOF = 3_000_000
@@ -322,17 +322,33 @@ def proofs_at_once():
     return min(len(os.sched_getaffinity(0)) + 1, max(free // KILOBYTES_A_PROOF, 1))
 
 
+def waited_for():
+    """The folders of the crates for which other crates or edits wait."""
+    rows = (TOP / "crates.txt").read_text(encoding="utf-8").splitlines()
+    used = {name for row in rows for name in row.partition("#")[0].partition(":")[2].split()}
+    return {str(crate) for crate in (TOP / "crates").iterdir() if crate.name in used or (crate / "must-fail").is_dir()}
+
+
+def lower_priority(process, nice):
+    for thread in os.listdir(process / "task"):
+        os.setpriority(os.PRIO_PROCESS, int(thread), nice)
+
+
 def let_proofs_go_first(run):
-    """Until `rt ci` ends, its edits get the processors that its proofs leave free: the proofs of the crates wait for one another."""
+    """Until `rt ci` ends, the proofs for which others wait go first, since the crates wait for one another. Then come the edits, of which a crate's are tried
+    one after the other, and last the crates of tests and the programs."""
+    first = waited_for()
     # Those of other runs are in such folders too: not each kit puts the number of its run into the name.
     edits = f"{tempfile.gettempdir()}/rt-edit-"
     while run.poll() is None:
         for process in Path("/proc").glob("[0-9]*"):
             # It may have ended, or be another user's.
             with contextlib.suppress(OSError):
-                if os.readlink(process / "cwd").startswith(edits):
-                    for thread in os.listdir(process / "task"):
-                        os.setpriority(os.PRIO_PROCESS, int(thread), 10)
+                folder = os.readlink(process / "cwd")
+                if folder.startswith(edits):
+                    lower_priority(process, 5)
+                elif folder.startswith(f"{TOP}/crates/") and folder not in first:
+                    lower_priority(process, 10)
         time.sleep(1)
 
 
