@@ -14,3 +14,7 @@ walk-returns-in-Layered t c =
     let a = to_z-of_z w64 c.cell-in-Layered.result (search rules) in
     let b = to_z-of_z w64 c.cell-in-Layered-2.result (search rules) in
     grind (arith, a, b)
+
+-- for an edit that must fail: an answer fails at once, a search twice at its limits
+pub converse-returns : goal.converse-returns
+converse-returns t c = c.walk.ensures
