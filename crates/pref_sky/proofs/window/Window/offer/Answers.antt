@@ -18,3 +18,7 @@ returns-then-len-self-clause-outcome g c =
 
 pub returns-then-len-self-clause-as_before : goal.returns-then-len-self-clause-as_before
 returns-then-len-self-clause-as_before g c = inr (ap window_entries (returns-then-len-self-clause-outcome g c).3)
+
+-- for an edit that must fail: an answer fails at once, a search twice at its limits
+pub invariant_of-self-then-self : goal.invariant_of-self-then-self
+invariant_of-self-then-self g c = record { within = omega arith; early_room = omega arith; late_room = omega arith; positive = omega arith }
